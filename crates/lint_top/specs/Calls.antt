@@ -1,5 +1,5 @@
 -- What a call of the program leaves.
-use Rattle.std.specs.Prelude.{◌≡◌, ℕ, List, Option, Result, Ok, Err}
+use Rattle.std.specs.Prelude.{◌≡◌, ℕ, ◌+◌, List, Option, Result, Ok, Err, ◌⊎◌}
 use Rattle.ops_io.specs.Outside.{GrewBy, GrewByPrefix}
 use Rattle.ops_io.specs.Ports.{Cause}
 use Rattle.ops_io.specs.declared.stop.Stop.{Stop}
@@ -20,8 +20,17 @@ status_after (Ok s) = s
 status_after (Err stop.Write) = status.Unwritten
 status_after (Err stop.OutOfMemory) = status.OutOfMemory
 
--- All bytes went out, with their status; or the output refused or memory ran out, and a prefix of them went out.
-abbrev pub Answers : LintStatus → Reply → Option (List ℕ) → Option (List ℕ) → Type 0
-Answers status.OutOfMemory o old new = GrewByPrefix old new o.bytes
-Answers status.Unwritten o old new = GrewByPrefix old new o.bytes
-Answers s o old new = (s ≡ o.status) × GrewBy old new o.bytes
+-- All bytes went out, with their status; or the output refused or memory ran out, and a prefix of them went out. A
+-- failed write is answered exactly where a write failed, which is the last one of the call.
+abbrev pub Answers : LintStatus → Reply → Option (List ℕ) → ℕ → Option (List ℕ) → ℕ → Type 0
+Answers status.OutOfMemory o old before new now = GrewByPrefix old new o.bytes × (now ≡ before)
+Answers status.Unwritten o old before new now = GrewByPrefix old new o.bytes × (now ≡ before + 1)
+Answers s o old before new now = (s ≡ o.status) × GrewBy old new o.bytes × (now ≡ before)
+
+-- A file that can't be read is answered only where a load failed, and where one failed no other answer comes but those
+-- of a write and of memory.
+abbrev pub TellsLoads : LintStatus → ℕ → ℕ → Type 0
+TellsLoads status.Unread before now = now ≡ before + 1
+TellsLoads status.Unwritten before now = (now ≡ before) ⊎ (now ≡ before + 1)
+TellsLoads status.OutOfMemory before now = (now ≡ before) ⊎ (now ≡ before + 1)
+TellsLoads s before now = now ≡ before

@@ -5,7 +5,7 @@ ghost use Rattle.ops_jobs.specs.Words.{word_bytes};
 ghost use Rattle.joined_files.specs.Contents.{OfContents, broken_load};
 ghost use Rattle.joined_files.specs.Files.{gathered_all, readable};
 ghost use Rattle.lint_top.specs.Whole.{is_file, are_files, answer_gathered, whole};
-ghost use Rattle.lint_top.specs.Calls.{Answers, Delivers};
+ghost use Rattle.lint_top.specs.Calls.{Answers, Delivers, TellsLoads, status_after};
 
 use crate::saying::{say_report, say_usage, say_why, status_after};
 use crate::statuses::LintStatus;
@@ -49,6 +49,7 @@ fn answer_files<H: Shelf, K: Sink>(
         Delivers result (answer_gathered (word_bytes names.now) (gathered_all (word_bytes names.now) (readable contents
         (broken_load (H.names shelf.old) (H.names shelf.new) (H.faults shelf.old) (H.faults shelf.new)))))
         (K.taken sink.old) (K.faults sink.old) (K.taken sink.new) (K.faults sink.new)) }
+    ensures loads { TellsLoads (status_after result) (H.faults shelf.old) (H.faults shelf.new) }
     ensures told { (n : List ℕ) → H.told shelf.new n ≡ H.told shelf.old n }
 {
     match load_files(alloc, names, shelf) {
@@ -71,7 +72,8 @@ pub fn lint_run<H: Shelf, K: Sink>(
     ensures answers { OfContents (H.told shelf.old) (word_bytes words.now) (λ contents. Answers result
         (whole (word_bytes words.now) contents
         (broken_load (H.names shelf.old) (H.names shelf.new) (H.faults shelf.old) (H.faults shelf.new)))
-        (K.taken sink.old) (K.taken sink.new)) }
+        (K.taken sink.old) (K.faults sink.old) (K.taken sink.new) (K.faults sink.new)) }
+    ensures loads { TellsLoads result (H.faults shelf.old) (H.faults shelf.new) }
     ensures told { (n : List ℕ) → H.told shelf.new n ≡ H.told shelf.old n }
 {
     if are_files(words) {

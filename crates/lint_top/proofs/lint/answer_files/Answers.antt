@@ -4,6 +4,7 @@ use Rattle.joined_files.specs.Files.{Gathered}
 use Rattle.joined_files.proofs.Contents.{contents_map}
 use Rattle.lint_top.specs.Whole.{answer_gathered}
 use Rattle.lint_top.specs.Calls.{Delivers}
+use Rattle.lint_top.proofs.Answering.{report_loads, why_loads}
 use Rattle.lint_top.proofs.lint.answer_files.Goals as goal
 
 pub returns-in-Ok-clause-delivers : goal.returns-in-Ok-clause-delivers
@@ -16,3 +17,11 @@ pub returns-in-Err-clause-delivers : goal.returns-in-Err-clause-delivers
 returns-in-Err-clause-delivers g c =
     let names = word_bytes c.args.names.now in
     contents_map (g.H.Shelf.told c.args.shelf.now) names _ _ (λ contents h. c.say_why.ensures.delivers names _ h) c.in-Err.ensures.fault
+
+pub returns-in-Ok-clause-loads : goal.returns-in-Ok-clause-loads
+returns-in-Ok-clause-loads g c =
+    report_loads c.say_report.result _ _ _ _ _ _ _ _ _ c.say_report.ensures.delivers c.load_files.ensures.cause
+
+pub returns-in-Err-clause-loads : goal.returns-in-Err-clause-loads
+returns-in-Err-clause-loads g c =
+    why_loads c.in-Err.why c.say_why.result _ _ _ _ _ _ c.in-Err.ensures.cause c.say_why.ensures.delivers

@@ -1,7 +1,8 @@
-use Rattle.std.proofs.Common.{sym, ◌∙◌}
+use Rattle.std.proofs.Common.{subst, sym, ◌∙◌}
 use Rattle.ops_jobs.specs.Words.{word_bytes}
 use Rattle.joined_files.proofs.Contents.{contents_map, contents_any}
-use Rattle.lint_top.proofs.Answering.{files_answer, usage_answers}
+use Rattle.lint_top.specs.Calls.{TellsLoads}
+use Rattle.lint_top.proofs.Answering.{files_answer, usage_answers, usage_loads}
 use Rattle.lint_top.proofs.lint.lint_run.Goals as goal
 
 pub returns-then-are_files-clause-answers : goal.returns-then-are_files-clause-answers
@@ -17,3 +18,11 @@ returns-clause-answers g c =
     let unfit = sym c.are_files.ensures ∙ c.if-are_files.false in
     contents_any (g.H.Shelf.told c.args.shelf.now) words _
     (λ contents. usage_answers words contents _ c.status_after-2.result c.say_usage-answered.result _ _ _ _ c.status_after-2.ensures unfit c.say_usage-answered.ensures.delivers)
+
+pub returns-then-are_files-clause-loads : goal.returns-then-are_files-clause-loads
+returns-then-are_files-clause-loads g c =
+    subst (λ s. TellsLoads s (g.H.Shelf.faults c.args.shelf.now) (g.H.Shelf.faults c.answer_files-answered.new.shelf)) (sym c.status_after.ensures) c.answer_files-answered.ensures.loads
+
+pub returns-clause-loads : goal.returns-clause-loads
+returns-clause-loads g c =
+    usage_loads c.status_after-2.result c.say_usage-answered.result _ _ _ _ _ c.status_after-2.ensures c.say_usage-answered.ensures.delivers
