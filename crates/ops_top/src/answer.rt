@@ -102,8 +102,8 @@ fn answer_live<
 }
 
 /// The answer to a program whose session runs over the matchers of this maker: one for the productions at its start, and
-/// one more where a phase or a look at the conflict set follows productions that came or went. The program in force is not given back
-/// piece by piece, since `ops` is about to end.
+/// one more where a phase or a look at the conflict set follows productions that came or went. The program in force is
+/// not given back piece by piece, since `ops` is about to end.
 pub(crate) fn answer_over<
     B: Maker,
     H: Fn(B::M, &[Change]) -> Result<Settled<B::M>, OutOfMemory>,

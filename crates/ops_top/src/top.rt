@@ -34,7 +34,7 @@ pub fn code(status: &Status) -> u8
 
 /// Runs the program on the words of its command line, or tells its network, without waiting for the turns of another
 /// thread. (Rounds wait for the end of the threads that they start.) It answers None where the words ask for a session
-/// over the engine of free workers, and has then done nothing. The input is read where the program asks for an atom. An
+/// over the engine of free workers or the stealing one, and has then done nothing. The input is read where the program asks for an atom. An
 /// engine over a network passes the gate before each activation.
 pub fn still_run<R: Threads + Clone + Drop + Send + Sync, H: Shelf, I: Source, K: Sink, G: Gate>(
     rt: &R,

@@ -1,6 +1,6 @@
 //! Programs that are explained at their end, over each engine.
 
-use crate::runs::answer;
+use crate::runs::{ENGINES, answer};
 use ops_io::MemSink;
 use ops_meaning::Status;
 use ops_top::code;
@@ -12,9 +12,15 @@ const PAIR: &[u8] = b"(literalize a n) (literalize stop)
 (p calm (a ^n <x>) - (stop) --> )
 (p big (a ^n 9) --> )
 (make a ^n 1) (make a ^n 2) (make stop)
+(matches pair calm)
 ";
 
-const PAIR_EXPLAINED: &[u8] = b"why pair 1 2: 1 ^n 1
+const PAIR_EXPLAINED: &[u8] = b"pair 1: 1
+pair 1: 2
+pair 2: 1 2
+calm 1: 1
+calm 1: 2
+why pair 1 2: 1 ^n 1
 why calm: condition 2
 why big: condition 1
 ";
@@ -40,16 +46,13 @@ const FAULTY: &[u8] = b"(literalize a n)
 #[test]
 fn explanations(rt: HostRuntime) -> Result<(), Fail> {
     let alloc = rt.alloc();
-    for engine in ["--match=direct", "--match=serial", "--match=free"] {
+    for engine in ENGINES {
         for (text, written) in [(PAIR, PAIR_EXPLAINED), (PLACES, PLACES_EXPLAINED)] {
+            let mut words = Vec::from_slice(alloc, engine)?;
+            words.push("--why")?;
+            words.push("a")?;
             let mut sink = MemSink::new(alloc, 1_000, 1_000, Vec::new(alloc))?;
-            let status = answer(
-                &rt,
-                alloc,
-                &["--why", engine, "a"],
-                &[("a", text)],
-                &mut sink,
-            )?;
+            let status = answer(&rt, alloc, &words, &[("a", text)], &mut sink)?;
             assert_eq!(rt; status, Status::Done);
             assert_eq!(rt; sink.written(), written);
         }
