@@ -124,12 +124,12 @@ pub report_loads : (r : Result LintStatus Stop) (names : List (List ℕ)) (text 
 report_loads r names text parts old new before now loads later d e =
     none_failed r (report names text parts) old new before now loads later (report_read names text parts) d e
 
-pub why_loads : {T : Type 0} (why : FilesFault) (r : Result LintStatus Stop) (old new : Option (List ℕ)) (before now loads later : ℕ)
+pub why_loads : (T : Type 0) (why : FilesFault) (r : Result LintStatus Stop) (old new : Option (List ℕ)) (before now loads later : ℕ)
     → CountsUnread {T = T} (Err why) loads later → ((names : List (List ℕ)) (found : Gathered) → ComesTo why found → Delivers r (answer_gathered names found) old before new now)
     → TellsLoads (status_after r) loads later
-why_loads (fault.Unread of) r old new before now loads later e d = one_failed r (unread of.now) old new before now loads later refl (d [] (Unread of.now) refl) e
-why_loads (fault.TooLong of) r old new before now loads later e d = none_failed r (overlong of.now) old new before now loads later tt (d [] (Overlong of.now) refl) e
-why_loads fault.OutOfMemory r old new before now loads later e d = none_failed r (overlong []) old new before now loads later tt (d [] (Overlong []) tt) e
+why_loads T (fault.Unread of) r old new before now loads later e d = one_failed r (unread of.now) old new before now loads later refl (d [] (Unread of.now) refl) e
+why_loads T (fault.TooLong of) r old new before now loads later e d = none_failed r (overlong of.now) old new before now loads later tt (d [] (Overlong of.now) refl) e
+why_loads T fault.OutOfMemory r old new before now loads later e d = none_failed r (overlong []) old new before now loads later tt (d [] (Overlong []) tt) e
 
 pub usage_loads : (s : LintStatus) (r : Result LintStatus Stop) (old new : Option (List ℕ)) (before now loads : ℕ) → s ≡ status_after r → Delivers r usage old before new now → TellsLoads s loads loads
 usage_loads s r old new before now loads e d = subst (λ s. TellsLoads s loads loads) (sym e) (none_failed r usage old new before now loads loads tt d refl)

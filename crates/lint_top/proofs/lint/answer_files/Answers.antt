@@ -20,8 +20,8 @@ returns-in-Err-clause-delivers g c =
 
 pub returns-in-Ok-clause-loads : goal.returns-in-Ok-clause-loads
 returns-in-Ok-clause-loads g c =
-    report_loads c.say_report.result _ _ _ _ _ _ _ _ _ c.say_report.ensures.delivers c.load_files.ensures.cause
+    report_loads c.say_report.result _ _ _ _ _ _ _ _ _ c.say_report.ensures.delivers c.in-Ok.ensures.cause
 
 pub returns-in-Err-clause-loads : goal.returns-in-Err-clause-loads
 returns-in-Err-clause-loads g c =
-    why_loads c.in-Err.why c.say_why.result _ _ _ _ _ _ c.in-Err.ensures.cause c.say_why.ensures.delivers
+    why_loads _ c.in-Err.why c.say_why.result _ _ _ _ _ _ c.in-Err.ensures.cause c.say_why.ensures.delivers
