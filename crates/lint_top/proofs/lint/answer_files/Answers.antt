@@ -1,6 +1,7 @@
 use Rattle.std.proofs.Common.{sym, subst}
 use Rattle.ops_jobs.specs.Words.{word_bytes}
 use Rattle.joined_files.specs.Files.{Gathered}
+use Rattle.joined_files.specs.declared.files.JoinedText.{JoinedText}
 use Rattle.joined_files.proofs.Contents.{contents_map}
 use Rattle.lint_top.specs.Whole.{answer_gathered}
 use Rattle.lint_top.specs.Calls.{Delivers}
@@ -20,8 +21,16 @@ returns-in-Err-clause-delivers g c =
 
 pub returns-in-Ok-clause-loads : goal.returns-in-Ok-clause-loads
 returns-in-Ok-clause-loads g c =
-    report_loads c.say_report.result _ _ _ _ _ _ _ _ _ c.say_report.ensures.delivers c.in-Ok.ensures.cause
+    let sink = c.args.sink.now in
+    let after = c.say_report.new.sink in
+    report_loads c.say_report.result (word_bytes c.args.names.now) c.in-Ok.joined.text.items c.in-Ok.joined.parts.items
+    (g.K.Sink.taken sink) (g.K.Sink.taken after) (g.K.Sink.faults sink) (g.K.Sink.faults after)
+    (g.H.Shelf.faults c.args.shelf.now) (g.H.Shelf.faults c.load_files.new.shelf) c.say_report.ensures.delivers c.in-Ok.ensures.cause
 
 pub returns-in-Err-clause-loads : goal.returns-in-Err-clause-loads
 returns-in-Err-clause-loads g c =
-    why_loads _ c.in-Err.why c.say_why.result _ _ _ _ _ _ c.in-Err.ensures.cause c.say_why.ensures.delivers
+    let sink = c.args.sink.now in
+    let after = c.say_why.new.sink in
+    why_loads JoinedText c.in-Err.why c.say_why.result
+    (g.K.Sink.taken sink) (g.K.Sink.taken after) (g.K.Sink.faults sink) (g.K.Sink.faults after)
+    (g.H.Shelf.faults c.args.shelf.now) (g.H.Shelf.faults c.load_files.new.shelf) c.in-Err.ensures.cause c.say_why.ensures.delivers
