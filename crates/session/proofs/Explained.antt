@@ -18,16 +18,16 @@ pub explained_early : (explained : Bool) (classes : List Class) (e : Effect Endi
 explained_early explained classes e early =
     let P : Result Meant Ending → Type 0 = EndsEarly in subst P (sym (explained_ends explained classes e)) early
 
-module _ {X : Type 0} (view : X → Coming → Meant) (classes : List Class) {i j : Inlet} {a b : Port} (e : Coming → Effect Ending Meant) where
-  abbrev next : ℕ → Meant → Effect Ending Meant
-  next column k = explains classes column k
+abbrev next : List Class → ℕ → Meant → Effect Ending Meant
+next classes column k = explains classes column k
 
+module _ {X : Type 0} (view : X → Coming → Meant) (classes : List Class) {i j : Inlet} {a b : Port} (e : Coming → Effect Ending Meant) where
   -- a session that fails is not explained
   pub explained_fails : {Y : Type 0} (seen : Y → Coming → Meant) (explained : Bool) (f : Ending) → (let r : Result X Ending = Err f in PerformsOn view of_ending r i j a b e)
       → (let r : Result Y Ending = Err f in PerformsOn seen of_ending r i j a b (λ z. explained_if explained classes (e z)))
   explained_fails seen false f p = on_err seen of_ending f i j a b e (fails_on view of_ending f i j a b e p)
   explained_fails seen true f p =
-      on_err seen of_ending f i j a b (λ z. and_then 0 (e z) next) (fails_on_front (of_ending f) i j a b 0 e next (fails_on view of_ending f i j a b e p))
+      on_err seen of_ending f i j a b (λ z. and_then 0 (e z) (next classes)) (fails_on_front (of_ending f) i j a b 0 e (next classes) (fails_on view of_ending f i j a b e p))
 
   -- where it is not asked for, nothing comes after the session
   pub left_alone : (explained : Bool) (r : Result X Ending) → explained ≡ false → PerformsOn view of_ending r i j a b e → PerformsOn view of_ending r i j a b (λ z. explained_if explained classes (e z))
@@ -39,18 +39,18 @@ module _ {X : Type 0} (view : X → Coming → Meant) (classes : List Class) {i 
       → ((z : Coming) → Performs (λ s. view s z) of_ending r b c (explains classes b.out.column (view x z))) → PerformsOn view of_ending r i j a c (λ z. explained_if explained classes (e z))
   explained_after explained x r c is zero_column steady p q =
       let P : Bool → Type 0 = λ t. PerformsOn view of_ending r i j a c (λ z. explained_if t classes (e z)) in
-      let Q : ℕ → Type 0 = λ n. PerformsOn view of_ending r i j a c (λ z. and_then n (e z) next) in
+      let Q : ℕ → Type 0 = λ n. PerformsOn view of_ending r i j a c (λ z. and_then n (e z) (next classes)) in
       subst P (sym is) (subst Q zero_column
-      (performs_on_then i j j a b c (view x) e next (leaves_on view of_ending x i j a b e steady p) view of_ending r
+      (performs_on_then i j j a b c (view x) e (next classes) (leaves_on view of_ending x i j a b e steady p) view of_ending r
       (performs_apart view of_ending r j b c (λ z. explains classes b.out.column (view x z)) q)))
 
 -- ---- the lines
 
 -- a call that writes and does nothing else does not fail as unread
-pub written_read : {X : Type 0} (f : Ending) (a b : Port) (bytes : List ℕ) (k : Meant) → Fails (of_ending f) a b (writes bytes k) → (let r : Result X Ending = Err f in ends_unread r ≡ false)
-written_read ending.ReadFault a b bytes k p = let bad = p.0 in absurd (cc)
-written_read ending.WriteFault a b bytes k p = refl
-written_read ending.OutOfMemory a b bytes k p = refl
-written_read (ending.Done n e t) a b bytes k p = refl
-written_read (ending.Act n r name i kind) a b bytes k p = refl
-written_read (ending.Limit n) a b bytes k p = refl
+pub written_read : (X : Type 0) (f : Ending) (a b : Port) (bytes : List ℕ) (k : Meant) → Fails (of_ending f) a b (writes bytes k) → (let r : Result X Ending = Err f in ends_unread r ≡ false)
+written_read X ending.ReadFault a b bytes k p = let bad = p.0 in absurd (cc)
+written_read X ending.WriteFault a b bytes k p = refl
+written_read X ending.OutOfMemory a b bytes k p = refl
+written_read X (ending.Done n e t) a b bytes k p = refl
+written_read X (ending.Act n r name i kind) a b bytes k p = refl
+written_read X (ending.Limit n) a b bytes k p = refl

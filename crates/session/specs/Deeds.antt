@@ -19,8 +19,8 @@ pub record Does {M H : Type 0} (stored : M → Stored) (stands_for : M → List 
   pub reads : ends_unread r ≡ false
   pub under_way : IfOk r (IsUnderWay stored stands_for rules)
 
--- What a call leaves that puts these bytes and may take memory: all of them are put, or the sink refused a write or memory
--- ran out, and the sink has got a prefix.
+-- What a call leaves that puts these bytes and may take memory: all of them are put, or the sink refused a write or
+-- memory ran out, and the sink has got a prefix.
 abbrev pub PutsOrStops : {X : Type 0} → Result X Stop → Port → Port → List ℕ → Type 0
 PutsOrStops (Ok x) old new bytes = Put old new bytes
 PutsOrStops (Err why) old new bytes = Stopped why old new bytes

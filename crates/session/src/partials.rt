@@ -129,7 +129,7 @@ fn put_of_names<K: Sink>(
     Ok(())
 }
 
-/// The same, where memory that runs out and a write that is refused are told as endings.
+/// The same, where memory that runs out and a write that is refused are endings.
 fn put_listed<K: Sink>(
     alloc: Global,
     names: &Names,

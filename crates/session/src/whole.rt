@@ -119,11 +119,11 @@ fn do_all<
     put_explanations(context.alloc, &live.program, names, session, out, sink)
 }
 
-/// Does the commands of a program in order, from nothing, and at their end puts the lines that explain the productions in
-/// force where they are asked for. At first the productions are those before the first `make` or
-/// `run`. The commands are taken from `live`, and its productions come and go with them. Each symbol keeps its spelling,
-/// and wherever the session looks for instantiations it looks at the conflict set of the productions in force. Where a
-/// read fails, all that was put before is written out.
+/// Does the commands of a program in order, from nothing, and at their end puts the lines that explain the productions
+/// in force where they are asked for. At first the productions are those before the first `make` or `run`. The commands
+/// are taken from `live`, and its productions come and go with them. Each symbol keeps its spelling, and wherever the
+/// session looks for instantiations it looks at the conflict set of the productions in force. Where a read fails, all
+/// that was put before is written out.
 pub fn run_session<
     B: Maker,
     H: Fn(B::M, &[Change]) -> Result<Settled<B::M>, OutOfMemory>,

@@ -16,7 +16,7 @@ returns-in_err-session-clause-performs g c =
     let p = err_from_is_err_and c.from_residual.result c.from_residual.ensures.1 in
     rw (p.1, p.2)
     (explained_fails (λ s z. meant_by g.B.M.Matcher.stored c.do_commands.new.live.program.rules s c.do_commands.new.names z) c.args.live.now.program.classes _
-    (λ s z. meant_by g.B.M.Matcher.stored c.do_commands.new.live.program.rules s c.do_commands.new.names z) c.args.is_explained c.in_err-session.field-0 c.in_err-session.ensures.performs)
+    (λ s z. meant_by g.B.M.Matcher.stored c.do_commands.new.live.program.rules s c.do_commands.new.names z) c.args.is_explained c.in_err-session.field-0.0 c.in_err-session.ensures.performs)
 
 pub returns-then-not-is_explained-clause-performs : goal.returns-then-not-is_explained-clause-performs
 returns-then-not-is_explained-clause-performs g c =

@@ -43,7 +43,7 @@ returns-in_err-put_why-clause-performs g c = λ z.
     let k = meant_by g.M.Matcher.stored c.args.program.now.rules c.args.session c.args.names.now z in
     let is : shown c.deref.result.now ≡ k.course.wm =
     ap shown c.deref.ensures.value ∙ c.in_ok-wm.ensures.elements ∙ ap (λ (x : Stored). x.elements) c.store.ensures ∙ all_stored g.M.Matcher.stored c.args.session c.args.names.now z c.requires.none_waits in
-    let P : List Element → Type 0 = λ wm. Fails (of_ending c.in_err-put_why.field-0) (port (g.K.Sink.taken c.args.sink.now) (g.K.Sink.faults c.args.sink.now) c.args.out.now)
+    let P : List Element → Type 0 = λ wm. Fails (of_ending c.in_err-put_why.field-0.0) (port (g.K.Sink.taken c.args.sink.now) (g.K.Sink.faults c.args.sink.now) c.args.out.now)
     (port (g.K.Sink.taken c.put_why.new.sink) (g.K.Sink.faults c.put_why.new.sink) c.put_why.new.out) (lists c.args.out.now.column (why_lines c.args.names.now c.args.program.now.classes c.args.program.now.rules wm) k) in
     rw (p.1, p.2) (subst P is (c.in_err-put_why.ensures k))
 
@@ -51,7 +51,7 @@ pub returns-in_err-put_why-clause-reads : goal.returns-in_err-put_why-clause-rea
 returns-in_err-put_why-clause-reads g c =
     let p = err_from_is_err_and c.from_residual-in_err-put_why.result c.from_residual-in_err-put_why.ensures.1 in
     let k = meant_by g.M.Matcher.stored c.args.program.now.rules c.args.session c.args.names.now some in
-    rw (p.1, p.2) (written_read c.in_err-put_why.field-0 _ _ _ k (c.in_err-put_why.ensures k))
+    rw (p.1, p.2) (written_read _ c.in_err-put_why.field-0.0 _ _ _ k (c.in_err-put_why.ensures k))
 
 pub flush-requires-clause-whole : goal.flush-requires-clause-whole
 flush-requires-clause-whole g c =
