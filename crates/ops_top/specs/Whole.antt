@@ -172,6 +172,7 @@ gathered sofar (name ∷ names) contents = Unread name
 -- what the text of a job comes to: that of its files, with these contents, or that of a workload
 abbrev pub gathered_for : Job → List (Option (List ℕ)) → Gathered
 gathered_for (Run options files) contents = gathered [] files contents
+gathered_for (Why options files) contents = gathered [] files contents
 gathered_for (Net files) contents = gathered [] files contents
 gathered_for (Gen options seed size) contents = Joined (workload seed size)
 
