@@ -41,16 +41,19 @@ module _ {X : Type 0} (view : X → Coming → Meant) (classes : List Class) {i 
       let P : Bool → Type 0 = λ t. PerformsOn view of_ending r i j a c (λ z. explained_if t classes (e z)) in
       let Q : ℕ → Type 0 = λ n. PerformsOn view of_ending r i j a c (λ z. and_then n (e z) (next classes)) in
       subst P (sym is) (subst Q zero_column
-      (performs_on_then i j j a b c (view x) e (next classes) (leaves_on view of_ending x i j a b e steady p) view of_ending r
+      (performs_on_then (view x) i j j a b c e (next classes) (leaves_on view of_ending x i j a b e steady p) view of_ending r
       (performs_apart view of_ending r j b c (λ z. explains classes b.out.column (view x z)) q)))
 
 -- ---- the lines
 
 -- a call that writes and does nothing else does not fail as unread
-pub written_read : (X : Type 0) (f : Ending) (a b : Port) (bytes : List ℕ) (k : Meant) → Fails (of_ending f) a b (writes bytes k) → (let r : Result X Ending = Err f in ends_unread r ≡ false)
-written_read X ending.ReadFault a b bytes k p = let bad = p.0 in absurd (cc)
-written_read X ending.WriteFault a b bytes k p = refl
-written_read X ending.OutOfMemory a b bytes k p = refl
-written_read X (ending.Done n e t) a b bytes k p = refl
-written_read X (ending.Act n r name i kind) a b bytes k p = refl
-written_read X (ending.Limit n) a b bytes k p = refl
+unread_none : {X : Type 0} (f : Ending) (a b : Port) (bytes : List ℕ) (k : Meant) (r : Result X Ending) → r ≡ Err f → Fails (of_ending f) a b (writes bytes k) → ends_unread r ≡ false
+unread_none ending.ReadFault a b bytes k r is p = let bad = p.0 in absurd (cc)
+unread_none ending.WriteFault a b bytes k r is p = rw is refl
+unread_none ending.OutOfMemory a b bytes k r is p = rw is refl
+unread_none (ending.Done n e t) a b bytes k r is p = rw is refl
+unread_none (ending.Act n r name i kind) a b bytes k q is p = rw is refl
+unread_none (ending.Limit n) a b bytes k r is p = rw is refl
+
+pub written_read : {X : Type 0} (r : Result X Ending) (f : Ending) (a b : Port) (bytes : List ℕ) (k : Meant) → r ≡ Err f → Fails (of_ending f) a b (writes bytes k) → ends_unread r ≡ false
+written_read r f a b bytes k is p = unread_none f a b bytes k r is p

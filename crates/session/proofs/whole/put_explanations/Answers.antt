@@ -1,4 +1,4 @@
-use Rattle.std.proofs.Common.{◌≡◌, ◌∙◌, ap, sym, subst, refl, false, [], List}
+use Rattle.std.proofs.Common.{◌≡◌, ◌∙◌, ap, sym, subst, refl, false, [], List, Err}
 use Rattle.std.proofs.lemmas.Result.{err_from_is_err_and}
 use Rattle.ops_base.specs.declared.elements.Element.{Element}
 use Rattle.ops_base.specs.declared.endings.Ending.{Ending}
@@ -51,7 +51,11 @@ pub returns-in_err-put_why-clause-reads : goal.returns-in_err-put_why-clause-rea
 returns-in_err-put_why-clause-reads g c =
     let p = err_from_is_err_and c.from_residual-in_err-put_why.result c.from_residual-in_err-put_why.ensures.1 in
     let k = meant_by g.M.Matcher.stored c.args.program.now.rules c.args.session c.args.names.now some in
-    rw (p.1, p.2) (written_read _ c.in_err-put_why.field-0.0 _ _ _ k (c.in_err-put_why.ensures k))
+    let is : c.from_residual-in_err-put_why.result ≡ Err c.in_err-put_why.field-0.0 = rw (p.1, p.2) refl in
+    written_read c.from_residual-in_err-put_why.result c.in_err-put_why.field-0.0
+    (port (g.K.Sink.taken c.args.sink.now) (g.K.Sink.faults c.args.sink.now) c.args.out.now)
+    (port (g.K.Sink.taken c.put_why.new.sink) (g.K.Sink.faults c.put_why.new.sink) c.put_why.new.out)
+    (lines_at c.args.out.now.column (why_lines c.args.names.now c.args.program.now.classes c.args.program.now.rules (shown c.deref.result.now))) k is (c.in_err-put_why.ensures k)
 
 pub flush-requires-clause-whole : goal.flush-requires-clause-whole
 flush-requires-clause-whole g c =
