@@ -7,6 +7,7 @@ use Rattle.ops_meaning.specs.Effects.{Performs, of_ending}
 use Rattle.act_phase.specs.Outcomes.{setting_of}
 use Rattle.ops_meaning.specs.Running.{session_of}
 use Rattle.session.specs.Courses.{meant_by}
+use Rattle.session.proofs.Comings.{performed_put}
 use Rattle.session.proofs.Explained.{explained_fails, left_alone, explained_after}
 use Rattle.why_lines.specs.Explained.{explains}
 use Rattle.session.proofs.whole.do_all.Goals as goal
@@ -28,3 +29,9 @@ returns-clause-performs g c =
     explained_after (λ s z. meant_by g.B.M.Matcher.stored c.do_commands.new.live.program.rules s c.do_commands.new.names z) c.args.live.now.program.classes _
     c.args.is_explained c.in_ok-session.session c.put_explanations.result _ c.if-not-is_explained.false c.requires.column c.in_ok-session.ensures.reads c.in_ok-session.ensures.performs
     (rw (sym c.in_ok-session.ensures.classes) c.put_explanations.ensures.performs)
+
+pub put_explanations-requires-clause-whole : goal.put_explanations-requires-clause-whole
+put_explanations-requires-clause-whole g c = (performed_put c.in_ok-session.ensures.performs).1.whole
+
+pub put_explanations-requires-clause-faults : goal.put_explanations-requires-clause-faults
+put_explanations-requires-clause-faults g c = rw (performed_put c.in_ok-session.ensures.performs).1.faults c.requires.faults
