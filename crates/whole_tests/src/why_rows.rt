@@ -65,7 +65,7 @@ fn no_explanation_after_a_fault(rt: HostRuntime) -> Result<(), Fail> {
     let alloc = rt.alloc();
     let mut sink = MemSink::new(alloc, 1_000, 1_000, Vec::new(alloc))?;
     let status = answer(&rt, alloc, &["--why", "a"], &[("a", FAULTY)], &mut sink)?;
-    assert_eq!(rt; code(status), 3);
+    assert_eq!(rt; code(&status), 3);
     let expected = b"ops: firing 1: r: action 1: zero divisor\n".as_slice();
     assert_eq!(rt; sink.written(), expected);
     Ok(())
