@@ -78,6 +78,7 @@ fn count_blockers(
 }
 
 /// What `activate` does, but that some children may be left where memory runs out.
+#[inline(always)]
 fn attempt(
     alloc: Global,
     net: &Net,
@@ -142,6 +143,7 @@ pub fn activate(
 }
 
 /// As `activate`, for one who knows the task's code, as `token_line::place_of` tells it with the line.
+#[inline(always)]
 pub fn activate_coded(
     alloc: Global,
     net: &Net,

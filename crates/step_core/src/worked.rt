@@ -30,6 +30,7 @@ fn name_worked(worked: &mut Vec<usize>, place: usize, line: &Line)
 
 /// Does the task on its line, whose children come at the end of `out`. `enter` gets the number of the line just before.
 /// Where memory runs out nothing has changed.
+#[inline(always)]
 pub(crate) fn act_on<F: Fn(usize)>(
     lines: &mut Vec<Line>,
     worked: &mut Vec<usize>,

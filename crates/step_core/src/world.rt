@@ -130,6 +130,13 @@ impl World {
         self.worked.as_slice()
     }
 
+    /// The tasks in flight; the last is the one to be done next. Takes no memory.
+    pub fn flight(&self) -> &[Task]
+        ensures { result.now ≡ self.now.flight.items }
+    {
+        self.flight.as_slice()
+    }
+
     /// How many tasks are in flight. Takes no memory.
     pub fn in_flight(&self) -> usize
         ensures { result ≡ length self.now.flight.items }

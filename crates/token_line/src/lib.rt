@@ -8,6 +8,7 @@ pub mod laws;
 pub mod line;
 mod memories;
 pub mod memory;
+mod node_place;
 pub mod number;
 mod small_map;
 mod spot;

@@ -12,8 +12,8 @@ ghost use Rattle.token_line.specs.Sums.{blockers_kept, counted, sum_kept};
 
 use crate::ghost_task::GhostTask;
 use crate::ghost_tasks::GhostTasks;
-use crate::memories::NodeMemory;
 use crate::memory::CodeMemory;
+use crate::node_place::NodePlace;
 use crate::small_map::SmallMap;
 use crate::spot::{TokenPlace, spot_in, sum_of};
 use crate::tokens::TokenCount;
@@ -23,6 +23,10 @@ use net_base::tasks::{Side, Task};
 use ops_base::memory::OutOfMemory;
 use std::alloc::Global;
 use work_store::Store;
+
+/// At most this many nodes of a line are kept as a list. A pair of it is 16 bytes wide: to look at all of them waits less
+/// for memory than to hash one does.
+const FEW_NODES: usize = 64;
 
 /// A task that was done, and the tasks that it gave. Contracts alone see both: an entry takes no bytes.
 #[derive(Drop)]
@@ -36,7 +40,7 @@ pub struct Entry {
 #[derive(Drop)]
 pub struct Line {
     number: usize,
-    memories: SmallMap<usize, NodeMemory>,
+    memories: SmallMap<usize, NodePlace>,
     entries: Vec<Entry>,
     told: Vec<Task>,
     ghost apart: { AreApart memories },
@@ -83,11 +87,14 @@ fn tell(told: &mut Vec<Task>, alloc: Global, task: &Task, is_told: bool) -> Resu
     Ok(())
 }
 
-/// A node with no token left leaves the line.
-fn drop_if_empty(memories: &mut SmallMap<usize, NodeMemory>, place: usize)
+/// A node with no token left leaves the line. It is looked at only if a token of it has just left.
+fn drop_if_empty(memories: &mut SmallMap<usize, NodePlace>, place: usize, has_left: bool)
     requires { place < length memories.old }
     ensures { (n c : ℕ) (s : Side) (t : List ℕ) → filed_among memories.new n c s t ≡ filed_among memories.old n c s t }
 {
+    if !has_left {
+        return;
+    }
     let _apart = memories.len();
     let (_node, of_node) = memories.pair(place);
     if of_node.is_empty() {
@@ -96,8 +103,9 @@ fn drop_if_empty(memories: &mut SmallMap<usize, NodeMemory>, place: usize)
 }
 
 /// Keeps something else of the token at the spot, or keeps it no more. Where memory runs out, nothing has changed.
+#[inline(always)]
 fn put(
-    memories: &mut SmallMap<usize, NodeMemory>,
+    memories: &mut SmallMap<usize, NodePlace>,
     alloc: Global,
     spot: &TokenPlace,
     task: &Task,
@@ -112,11 +120,12 @@ fn put(
     match spot.node {
         Some(place) => {
             memories.value_mut(place).put(alloc, spot, task, cell)?;
-            drop_if_empty(memories, place);
+            drop_if_empty(memories, place, cell.is_none());
         }
         None => {
             let place = memories.len();
-            memories.push(alloc, task.node, NodeMemory::new(alloc, spot.code))?;
+            let fresh = NodePlace::new(alloc, spot.code)?;
+            memories.push_within(alloc, FEW_NODES, task.node, fresh)?;
             memories.value_mut(place).put(alloc, spot, task, cell)?;
         }
     }
@@ -124,8 +133,9 @@ fn put(
 }
 
 /// The same, and reports the task, if it is to be reported.
+#[inline(always)]
 fn put_and_tell(
-    memories: &mut SmallMap<usize, NodeMemory>,
+    memories: &mut SmallMap<usize, NodePlace>,
     told: &mut Vec<Task>,
     alloc: Global,
     spot: &TokenPlace,
@@ -153,7 +163,7 @@ fn put_and_tell(
 
 /// One right token more, or one less, for each left token of the node with this code that it goes with.
 fn block(
-    memories: &mut SmallMap<usize, NodeMemory>,
+    memories: &mut SmallMap<usize, NodePlace>,
     store: &Store,
     of: &Node,
     node: usize,
@@ -237,6 +247,7 @@ impl Line {
     /// The spot of a token of one side of a node among those with its code, and the memory of these. It looks once for
     /// the node, for the code where the node has several on the line, and for the token: each is compared with the
     /// others where they are few, and hashed where they are many. Takes no memory.
+    #[inline(always)]
     pub fn find(
         &self,
         node: usize,
@@ -302,6 +313,7 @@ impl Line {
     /// The same at the spot of the task's token, with no look for it. A token that is new to a memory of many is
     /// hashed, and so is a code or a node that is new among many. The task is copied where it is to be reported, and
     /// else its token alone, where that is new.
+    #[inline(always)]
     pub fn add_at(
         &mut self,
         alloc: Global,

@@ -31,11 +31,14 @@ pub(crate) struct NodeMemory {
     others: SmallMap<u64, CodeMemory>,
 }
 
-/// A memory that has become empty leaves the others.
-fn drop_if_empty(others: &mut SmallMap<u64, CodeMemory>, place: usize)
+/// A memory that has become empty leaves the others. It is looked at only if a token of it has just left.
+fn drop_if_empty(others: &mut SmallMap<u64, CodeMemory>, place: usize, has_left: bool)
     requires { place < length others.old }
     ensures { (c : ℕ) (s : Side) (t : List ℕ) → kept_among others.new c s t ≡ kept_among others.old c s t }
 {
+    if !has_left {
+        return;
+    }
     let _apart = others.len();
     let (_code, memory) = others.pair(place);
     if memory.is_empty() {
@@ -62,7 +65,7 @@ fn put_among(
             others
                 .value_mut(place)
                 .put(alloc, task.side, spot.token, &task.token, cell)?;
-            drop_if_empty(others, place);
+            drop_if_empty(others, place, cell.is_none());
         }
         None => {
             let mut memory = CodeMemory::new(alloc);
@@ -139,6 +142,7 @@ impl NodeMemory {
     }
 
     /// Keeps something else of the token at the spot, or keeps it no more. Where memory runs out, nothing has changed.
+    #[inline(always)]
     pub(crate) fn put(
         &mut self,
         alloc: Global,

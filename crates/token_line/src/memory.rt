@@ -80,6 +80,7 @@ impl CodeMemory {
     }
 
     /// Keeps something else of a token of one side, or keeps it no more. Where memory runs out, nothing has changed.
+    #[inline(always)]
     pub(crate) fn put(
         &mut self,
         alloc: Global,

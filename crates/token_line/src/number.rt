@@ -61,6 +61,7 @@ fn left_value(store: &Store, tags: &[u64], test: &JoinTest) -> Value
 
 /// The code, with the token's values at the tests for equality mixed in. The element of a right token is looked up
 /// once.
+#[inline(always)]
 fn with_values(store: &Store, side: Side, tags: &[u64], tests: &[JoinTest], code: u64) -> u64
     ensures { result ≡ fold mixed code (map (λ j. value_code (own_value (held_of store.now) side tags.now j)) (equalities tests.now)) }
 {
@@ -177,6 +178,7 @@ fn both_codes(store: &Store, node: &Node, side: Side, tags: &[u64], start: u64) 
 }
 
 /// What `line_of` and `code_of` answer, for one look at each test of the node or each tag. Takes no memory.
+#[inline(always)]
 pub fn place_of(net: &Net, store: &Store, task: &Task, lines: usize) -> LineAndCode
     requires { 1 ≤ lines }
     ensures line { result.line ≡ line_number (held_of store.now) net.now.nodes lines task.now.node task.now.side task.now.token }

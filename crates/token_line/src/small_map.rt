@@ -89,6 +89,7 @@ impl<K: Eq + Hash, V> Room<K, V> {
         }
     }
 
+    #[inline(always)]
     fn find(&self, key: &K) -> Option<usize>
         ensures { result ≡ position (K.eq key.now) (keys_of (pairs_in self.now)) }
     {
@@ -219,6 +220,7 @@ impl<K: Eq + Hash, V> SmallMap<K, V> {
 
     /// The place of a key. It compares the key with each where they are few, and hashes it where they are many. Takes
     /// no memory.
+    #[inline(always)]
     pub(crate) fn find(&self, key: &K) -> Option<usize>
         ensures { result ≡ position (K.eq key.now) (keys_of self.now) }
     {

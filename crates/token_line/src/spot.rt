@@ -47,6 +47,7 @@ impl TokenPlace {
 }
 
 /// The spot of a token at the place of a node, in the memory of its code, where there are such.
+#[inline(always)]
 pub(crate) fn spot_in(
     memory: Option<&CodeMemory>,
     node: Option<usize>,

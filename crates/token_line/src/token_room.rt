@@ -14,7 +14,7 @@ use std::alloc::Global;
 use std::slice;
 
 /// How many tokens of one tag a list takes room for at first.
-const FIRST_ROOM: usize = 4;
+const FIRST_ROOM: usize = 6;
 
 /// At most this many tokens of one tag are kept as a list: to look at all of them takes no longer than to hash one.
 const FEW_TAGS: usize = 16;
@@ -102,6 +102,7 @@ impl TokenRoom {
         }
     }
 
+    #[inline(always)]
     pub(crate) fn find(&self, token: &Tags) -> Option<usize>
         ensures { result ≡ place_of (tokens_in self.now) token.now }
     {

@@ -95,6 +95,7 @@ impl Tokens {
 
     /// The place of a token. It compares the token with each where they are few, and hashes it where they are many.
     /// Takes no memory.
+    #[inline(always)]
     pub fn find(&self, token: &Tags) -> Option<usize>
         ensures { result ≡ place_of self.now token.now }
     {
@@ -149,6 +150,7 @@ impl Tokens {
 
     /// Keeps something else of a token that has this place, or keeps it no more. Where memory runs out, nothing has
     /// changed.
+    #[inline(always)]
     pub(crate) fn put(
         &mut self,
         alloc: Global,

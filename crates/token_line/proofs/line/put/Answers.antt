@@ -53,8 +53,8 @@ returns-in_ok-put-in-Some-clause-ok c = λ m k s t.
 pub drop_if_empty-requires : goal.drop_if_empty-requires
 drop_if_empty-requires c = within_set c.args.memories.now c.in-Some.place c.value_mut.result.now c.put.new.self c.value_mut.ensures.value
 
-pub push-requires : goal.push-requires
-push-requires c =
+pub push_within-requires : goal.push_within-requires
+push_within-requires c =
     missing_value (nat_eq c.args.task.now.node) c.args.memories.now (sym c.requires.spot.node ∙ c.in-None.is)
 
 -- the memory that is new to the line stands last, and has nothing
@@ -94,8 +94,8 @@ put-requires-in-None-clause-token c =
     let code = c.args.spot.now.code in
     let none = missing_value (nat_eq x.node) old (sym c.requires.spot.node ∙ c.in-None.is) in
     c.requires.spot.token ∙ (ap (λ o. place_of (tokens_of (memory_of o code) x.side) x.token) none
-    ∙ ap (λ kept. place_of kept x.token) (sym (no_tokens old c.push.new.self x.node code c.len-place.result c.new.result c.value_mut-in-None.result.now c.in_ok-push-in-None.ensures.ok c.len-place.ensures.len
-    c.value_mut-in-None.ensures.value c.new.ensures.code c.new.ensures.left c.new.ensures.right c.new.ensures.others x.side)))
+    ∙ ap (λ kept. place_of kept x.token) (sym (no_tokens old c.push_within.new.self x.node code c.len-place.result c.in_ok-fresh-in-None.fresh c.value_mut-in-None.result.now c.in_ok-push_within-in-None.ensures.ok c.len-place.ensures.len
+    c.value_mut-in-None.ensures.value c.in_ok-fresh-in-None.ensures.code c.in_ok-fresh-in-None.ensures.left c.in_ok-fresh-in-None.ensures.right c.in_ok-fresh-in-None.ensures.others x.side)))
 
 pub returns-in_err-put-in-None-clause-err : goal.returns-in_err-put-in-None-clause-err
 returns-in_err-put-in-None-clause-err c =
@@ -106,12 +106,12 @@ returns-in_err-put-in-None-clause-err c =
     let none = missing_value (nat_eq x.node) old (sym c.requires.spot.node ∙ c.in-None.is) in
     always_err c.from_residual-in_err-put-in-None.result
     (λ m k s t.
-    put_seen (λ q. lookup (nat_eq q) old) (λ q. lookup (nat_eq q) (set_value_at c.push.new.self place new)) x.node m (λ o. cell_of (tokens_of (memory_of o k) s) t) new false None
-    (written old c.push.new.self x.node c.args.spot.now.code place c.new.result c.value_mut-in-None.result.now c.in_ok-push-in-None.ensures.ok c.len-place.ensures.len
-    c.value_mut-in-None.ensures.value c.new.ensures.code c.new.ensures.left c.new.ensures.right c.new.ensures.others new none m)
+    put_seen (λ q. lookup (nat_eq q) old) (λ q. lookup (nat_eq q) (set_value_at c.push_within.new.self place new)) x.node m (λ o. cell_of (tokens_of (memory_of o k) s) t) new false None
+    (written old c.push_within.new.self x.node c.args.spot.now.code place c.in_ok-fresh-in-None.fresh c.value_mut-in-None.result.now c.in_ok-push_within-in-None.ensures.ok c.len-place.ensures.len
+    c.value_mut-in-None.ensures.value c.in_ok-fresh-in-None.ensures.code c.in_ok-fresh-in-None.ensures.left c.in_ok-fresh-in-None.ensures.right c.in_ok-fresh-in-None.ensures.others new none m)
     (c.in_err-put-in-None.ensures.err k s t
-    ∙ (nothing old c.push.new.self x.node c.args.spot.now.code place c.new.result c.value_mut-in-None.result.now c.in_ok-push-in-None.ensures.ok c.len-place.ensures.len
-    c.value_mut-in-None.ensures.value c.new.ensures.code c.new.ensures.left c.new.ensures.right c.new.ensures.others k s t
+    ∙ (nothing old c.push_within.new.self x.node c.args.spot.now.code place c.in_ok-fresh-in-None.fresh c.value_mut-in-None.result.now c.in_ok-push_within-in-None.ensures.ok c.len-place.ensures.len
+    c.value_mut-in-None.ensures.value c.in_ok-fresh-in-None.ensures.code c.in_ok-fresh-in-None.ensures.left c.in_ok-fresh-in-None.ensures.right c.in_ok-fresh-in-None.ensures.others k s t
     ∙ ap (λ o. cell_of (tokens_of (memory_of o k) s) t) (sym none)))
     ∙ never (m == x.node) None (filed_among old m k s t))
 
@@ -124,11 +124,11 @@ returns-in_ok-put-in-None-clause-ok c = λ m k s t.
     let new = c.put-in-None.new.self in
     let none = missing_value (nat_eq x.node) old (sym c.requires.spot.node ∙ c.in-None.is) in
     let own = are_same_sides s x.side && bytes_eq t x.token in
-    put_seen (λ q. lookup (nat_eq q) old) (λ q. lookup (nat_eq q) (set_value_at c.push.new.self place new)) x.node m (λ o. cell_of (tokens_of (memory_of o k) s) t) new ((k == code) && own) c.args.cell
-    (written old c.push.new.self x.node code place c.new.result c.value_mut-in-None.result.now c.in_ok-push-in-None.ensures.ok c.len-place.ensures.len
-    c.value_mut-in-None.ensures.value c.new.ensures.code c.new.ensures.left c.new.ensures.right c.new.ensures.others new none m)
+    put_seen (λ q. lookup (nat_eq q) old) (λ q. lookup (nat_eq q) (set_value_at c.push_within.new.self place new)) x.node m (λ o. cell_of (tokens_of (memory_of o k) s) t) new ((k == code) && own) c.args.cell
+    (written old c.push_within.new.self x.node code place c.in_ok-fresh-in-None.fresh c.value_mut-in-None.result.now c.in_ok-push_within-in-None.ensures.ok c.len-place.ensures.len
+    c.value_mut-in-None.ensures.value c.in_ok-fresh-in-None.ensures.code c.in_ok-fresh-in-None.ensures.left c.in_ok-fresh-in-None.ensures.right c.in_ok-fresh-in-None.ensures.others new none m)
     (c.in_ok-put-in-None.ensures.ok k s t
-    ∙ (ap (λ o. cond ((k == code) && own) c.args.cell o) (nothing old c.push.new.self x.node code place c.new.result c.value_mut-in-None.result.now c.in_ok-push-in-None.ensures.ok c.len-place.ensures.len
-    c.value_mut-in-None.ensures.value c.new.ensures.code c.new.ensures.left c.new.ensures.right c.new.ensures.others k s t)
+    ∙ (ap (λ o. cond ((k == code) && own) c.args.cell o) (nothing old c.push_within.new.self x.node code place c.in_ok-fresh-in-None.fresh c.value_mut-in-None.result.now c.in_ok-push_within-in-None.ensures.ok c.len-place.ensures.len
+    c.value_mut-in-None.ensures.value c.in_ok-fresh-in-None.ensures.code c.in_ok-fresh-in-None.ensures.left c.in_ok-fresh-in-None.ensures.right c.in_ok-fresh-in-None.ensures.others k s t)
     ∙ ap (λ o. cond ((k == code) && own) c.args.cell (cell_of (tokens_of (memory_of o k) s) t)) (sym none)))
     ∙ ap (λ b. cond b c.args.cell (filed_among old m k s t)) (swapped (m == x.node) (k == code) own)
