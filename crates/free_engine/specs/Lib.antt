@@ -1,5 +1,4 @@
 -- An engine between two settles, what workers do with the pool and the lines, and what comes of it.
-pub mod Engines
 pub mod Fitting
 pub mod Phased
 pub mod Drained

@@ -6,7 +6,7 @@ ghost use Rattle.step_core.specs.Laws.{AreEmpty};
 ghost use Rattle.step_core.specs.Phases.{HoldJust, now, sums_over};
 ghost use Rattle.step_core.specs.Worlds.{AreNumbered, placed, seen};
 
-use crate::phases::{Sharing, settle};
+use crate::phases::{WORTH, settle};
 use net_base::net::Net;
 use ops_base::elements::Change;
 use ops_base::memory::OutOfMemory;
@@ -18,6 +18,7 @@ use std::sync::Wait;
 use std::thread::Threads;
 use step_core::laws::{match_laws, settle_laws};
 use step_core::{Gathered, World};
+use team_phase::Sharing;
 use token_line::Line;
 use work_store::{Matcher, Settled, Store};
 
@@ -43,8 +44,8 @@ impl<G> Model for FreeEngine<G> {
     ghost use Rattle.std.specs.Coded.{codes};
     ghost use Rattle.net_base.specs.contracts.net.Net as nets;
     ghost use Rattle.step_core.specs.contracts.world.World as worlds;
-    ghost use Rattle.free_engine.specs.contracts.phases.Sharing as sharings;
-    ghost use Rattle.free_engine.specs.Engines.{CanSettle, Engine};
+    ghost use Rattle.team_phase.specs.contracts.phases.Sharing as sharings;
+    ghost use Rattle.team_phase.specs.Engines.{CanSettle, Engine};
 
     ghost Value = { Engine };
 
@@ -84,6 +85,7 @@ impl<G: Drop> FreeEngine<G> {
             gate,
             sharing: Sharing {
                 workers,
+                worth: WORTH,
                 shared: false,
             },
         };

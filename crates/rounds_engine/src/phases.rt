@@ -1,5 +1,5 @@
 //! A phase at work: on the calling thread as long as few tasks are in flight, and then in rounds.
-ghost use Rattle.std.specs.Prelude.{◌≡◌, ◌<◌, ◌≤◌, ◌+◌, ℕ, All, IfOk, OnOk, [], length, map};
+ghost use Rattle.std.specs.Prelude.{◌≡◌, ◌<◌, ◌≤◌, ◌+◌, All, IfOk, OnOk, [], length, map};
 ghost use Rattle.ops_base.specs.WorkingMemory.{Lawful, done, last_after};
 ghost use Rattle.work_store.specs.Settling.{IsSettled};
 ghost use Rattle.work_store.specs.Stored.{HoldsAlso, added_by, held_of};
@@ -9,7 +9,7 @@ ghost use Rattle.step_core.specs.Found.{found_over};
 ghost use Rattle.step_core.specs.Phases.{HoldJust, IsBundle, now, sums_over};
 ghost use Rattle.step_core.specs.Worlds.{IsReady, numbers_of, placed, seen, world_of};
 ghost use Rattle.serial_engine.specs.Running.{IsBundleOf, Went};
-ghost use Rattle.serial_engine.specs.Carrying.{CarriesOn};
+ghost use Rattle.serial_engine.specs.Carrying.{CarriesOn, FeedsOn};
 ghost use Rattle.rounds_engine.specs.Sharing.{AreAllShards, AreDeeper, AreKept, tasks_of_shards};
 
 use crate::ground::Ground;
@@ -19,7 +19,7 @@ use net_base::net::Net;
 use ops_base::elements::Change;
 use ops_base::memory::OutOfMemory;
 use ops_io::Gate;
-use serial_engine::{do_changes, feed_all, work_all};
+use serial_engine::{Worth, begin_alone, do_changes, is_room_needed, work_all};
 use std::alloc::Global;
 use std::mem;
 use std::thread::Threads;
@@ -37,17 +37,12 @@ pub(crate) struct Sharing {
     pub(crate) shared: bool,
 }
 
-/// How many tasks in flight end the work on the calling thread.
-const MANY_IN_FLIGHT: usize = 256;
-
-/// How many tasks in flight end the work on the calling thread, if rounds can be shared at all.
-fn most_alone(shards: usize) -> Option<usize> {
-    if shards == 1 {
-        None
-    } else {
-        Some(MANY_IN_FLIGHT)
-    }
-}
+/// When rounds pay. Each task is dealt to its shard, and each round waits for its slowest shard, so light tasks lose.
+const WORTH: Worth = Worth {
+    alone: 4_000,
+    in_hand: 4_000,
+    of_a_task: 5,
+};
 
 /// The shard of the line of the task in flight at that place, at the cost of `World::line_at`.
 fn shard_at(ground: &Ground<'_>, world: &World, index: usize) -> usize
@@ -78,8 +73,8 @@ fn are_apart(ground: &Ground<'_>, world: &World) -> bool
     false
 }
 
-/// Does tasks in flight on the calling thread, from the last on, and all that comes of them, until none is left or many
-/// are in flight. It does none where a round can be shared for the first time.
+/// Does tasks in flight on the calling thread, from the last on, and what comes of them, until none is left or it pays
+/// to do the rest in rounds. It does none where a round can be shared for the first time.
 fn work_alone<G: Gate>(
     ground: &Ground<'_>,
     gate: &G,
@@ -97,8 +92,10 @@ fn work_alone<G: Gate>(
         return Ok(());
     }
     let enter = |line: usize| gate.enter(0, line);
-    let most = most_alone(ground.shards);
-    work_all(ground.alloc, ground.net, ground.store, &enter, world, most)
+    if ground.shards == 1 {
+        return work_all(ground.alloc, ground.net, ground.store, &enter, world, None);
+    }
+    begin_alone(ground.alloc, ground.net, ground.store, &enter, world, WORTH)
 }
 
 /// Does the tasks of these shards on the lines, in one round, which is shared among threads where that pays, and
@@ -197,6 +194,81 @@ fn work_in_rounds<R: Threads + Sync, G: Gate>(
     Ok(())
 }
 
+/// Does the tasks in flight, and all that comes of them, on the calling thread and in rounds.
+fn work_off<R: Threads + Sync, G: Gate>(
+    rt: &R,
+    ground: &Ground<'_>,
+    gate: &G,
+    shared: &mut bool,
+    world: &mut World,
+) -> Result<(), OutOfMemory>
+    requires lines { length world.old.lines.items ≡ ground.now.lines }
+    requires ready { IsReady ground.now.net.now.nodes ground.now.store.now world.old }
+    requires done { length world.old.done.items ≡ 0 }
+    ensures carries { OnOk result (CarriesOn ground.now.net.now.alphas ground.now.net.now.nodes ground.now.store.now world.old.lines.items world.old.flight.items world.new.lines.items world.new.flight.items) }
+    ensures quiet { OnOk result (world.new.counter ≡ 0) }
+    ensures ready { OnOk result (IsReady ground.now.net.now.nodes ground.now.store.now world.new) }
+    ensures numbers { OnOk result (numbers_of world.new ≡ numbers_of world.old) }
+{
+    settle_laws();
+    round_laws();
+    work_alone(ground, gate, world, *shared)?;
+    work_in_rounds(rt, ground, gate, shared, world)?;
+    Ok(())
+}
+
+/// Does all tasks in flight where these are too many to feed a change more, and none otherwise.
+fn make_room<R: Threads + Sync, G: Gate>(
+    rt: &R,
+    ground: &Ground<'_>,
+    gate: &G,
+    shared: &mut bool,
+    world: &mut World,
+) -> Result<(), OutOfMemory>
+    requires lines { length world.old.lines.items ≡ ground.now.lines }
+    requires ready { IsReady ground.now.net.now.nodes ground.now.store.now world.old }
+    requires done { length world.old.done.items ≡ 0 }
+    ensures carries { OnOk result (CarriesOn ground.now.net.now.alphas ground.now.net.now.nodes ground.now.store.now world.old.lines.items world.old.flight.items world.new.lines.items world.new.flight.items) }
+    ensures done { OnOk result (length world.new.done.items ≡ 0) }
+    ensures ready { OnOk result (IsReady ground.now.net.now.nodes ground.now.store.now world.new) }
+    ensures numbers { OnOk result (numbers_of world.new ≡ numbers_of world.old) }
+{
+    if !is_room_needed(world) {
+        return Ok(());
+    }
+    work_off(rt, ground, gate, shared, world)?;
+    Ok(())
+}
+
+/// Puts the tasks of the changes into flight, in the order of the changes. Before each change room is made.
+fn feed_in_turns<R: Threads + Sync, G: Gate>(
+    rt: &R,
+    ground: &Ground<'_>,
+    gate: &G,
+    shared: &mut bool,
+    world: &mut World,
+    changes: &[Change],
+) -> Result<(), OutOfMemory>
+    requires lines { length world.old.lines.items ≡ ground.now.lines }
+    requires ready { IsReady ground.now.net.now.nodes ground.now.store.now world.old }
+    requires done { length world.old.done.items ≡ 0 }
+    requires known { All (IsKnown ground.now.store.now) changes.now }
+    ensures feeds { OnOk result (FeedsOn ground.now.net.now.alphas ground.now.net.now.nodes ground.now.store.now world.old.lines.items world.old.flight.items changes.now world.new.lines.items world.new.flight.items) }
+    ensures done { OnOk result (length world.new.done.items ≡ 0) }
+    ensures ready { OnOk result (IsReady ground.now.net.now.nodes ground.now.store.now world.new) }
+    ensures numbers { OnOk result (numbers_of world.new ≡ numbers_of world.old) }
+{
+    settle_laws();
+    round_laws();
+    let net = ground.net;
+    let _nodes = net.nodes();
+    for change in changes {
+        make_room(rt, ground, gate, shared, world)?;
+        world.feed(ground.alloc, net, ground.store, change)?;
+    }
+    Ok(())
+}
+
 /// Does the phase of these changes, which the store has done. The lines begin it.
 fn run_phase<R: Threads + Sync, G: Gate>(
     rt: &R,
@@ -220,9 +292,9 @@ fn run_phase<R: Threads + Sync, G: Gate>(
     let net = ground.net;
     let _nodes = net.nodes();
     world.clear_phase();
-    feed_all(ground.alloc, net, ground.store, world, changes)?;
-    work_alone(ground, gate, world, *shared)?;
-    work_in_rounds(rt, ground, gate, shared, world)
+    feed_in_turns(rt, ground, gate, shared, world, changes)?;
+    work_off(rt, ground, gate, shared, world)?;
+    Ok(())
 }
 
 /// Does the changes to the store, and their phase over lines that hold just the tokens over it. The lines then hold

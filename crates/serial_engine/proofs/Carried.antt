@@ -1,5 +1,5 @@
 -- A phase that begins is carried on by steps, and by what follows them, to its bundle.
-use Rattle.std.proofs.Common.{◌≡◌, ℕ, List, [], ◌++◌, sym, subst, ◌∙◌, arith, length, map, append-nil}
+use Rattle.std.proofs.Common.{◌≡◌, ℕ, List, [], ◌++◌, sym, subst, ◌∙◌, arith, length, map, append-nil, append_assoc}
 use Rattle.std.proofs.lemmas.List.{length-map}
 use Rattle.ops_base.specs.declared.elements.Change.{Change}
 use Rattle.ops_base.specs.declared.elements.Element.{Element}
@@ -16,9 +16,9 @@ use Rattle.step_core.specs.Phases.{children_of}
 use Rattle.step_core.specs.Rounds.{BeginLaw, EndLaw, IsUnderWay, StepsLaw}
 use Rattle.step_core.specs.Settling.{PlacedLaw}
 use Rattle.step_core.specs.Worlds.{numbers_of, placed, seen, world_of}
-use Rattle.serial_engine.specs.Carrying.{CarriesOn}
+use Rattle.serial_engine.specs.Carrying.{CarriesOn, FeedsOn}
 use Rattle.serial_engine.specs.Running.{IsBundleOf, Went}
-use Rattle.serial_engine.proofs.PhaseLemmas.{at_rest, done_stays, flight_stays}
+use Rattle.serial_engine.proofs.PhaseLemmas.{at_rest, flight_stays, none_in_flight}
 use Rattle.serial_engine.proofs.StepLemmas.{same_count}
 
 module _ (alphas : List Alpha) (nodes : List Node) (s : Stored) where
@@ -27,7 +27,7 @@ module _ (alphas : List Alpha) (nodes : List Node) (s : Stored) where
   way n wm changes ls waiting = IsUnderWay (held_of s) alphas nodes (placed (held_of s) nodes n) wm changes (map seen ls) waiting
 
   -- steps that feed changes
-  by_steps : StepsLaw → PlacedLaw → IsSound alphas nodes → (v w : World) (cs : List Change) → Went alphas nodes s (length v.lines.items) v cs w → (world_of v).done ≡ [] → (world_of w).done ≡ []
+  pub by_steps : StepsLaw → PlacedLaw → IsSound alphas nodes → (v w : World) (cs : List Change) → Went alphas nodes s (length v.lines.items) v cs w → (world_of v).done ≡ [] → (world_of w).done ≡ []
       → (wm : List Element) (changes : List Change) → way (length v.lines.items) wm changes v.lines.items v.flight.items → way (length v.lines.items) wm (changes ++ cs) w.lines.items w.flight.items
   by_steps steps_law placed_law sound v w cs went v_done w_done wm changes on =
       let n = length v.lines.items in
@@ -45,26 +45,45 @@ module _ (alphas : List Alpha) (nodes : List Node) (s : Stored) where
   by_work steps_law placed_law sound v w went v_done w_done wm changes on =
       subst (λ cs. way (length v.lines.items) wm cs w.lines.items w.flight.items) (append-nil changes) (by_steps steps_law placed_law sound v w [] went v_done w_done wm changes on)
 
--- ---- a whole phase: changes are fed, the calling thread works alone, and what is left is carried on to its end
+-- ---- one after another
+
+module _ (alphas : List Alpha) (nodes : List Node) (s : Stored) (a b : List Line) (ts us : List Task) (same : length b ≡ length a) where
+  -- changes are fed, and then others
+  pub fed_on : (c : List Line) (vs : List Task) (fed more : List Change) → FeedsOn alphas nodes s a ts fed b us → FeedsOn alphas nodes s b us more c vs → FeedsOn alphas nodes s a ts (fed ++ more) c vs
+  fed_on c vs fed more first then wm changes on =
+      subst (λ ds. way alphas nodes s (length a) wm ds c vs) (append_assoc changes fed more)
+      (subst (λ n. way alphas nodes s n wm ((changes ++ fed) ++ more) c vs) same (then wm (changes ++ fed) (subst (λ n. way alphas nodes s n wm (changes ++ fed) b us) (sym same) (first wm changes on))))
+
+  -- changes are fed, and then tasks are done
+  pub fed_and_carried : (c : List Line) (vs : List Task) (fed : List Change) → FeedsOn alphas nodes s a ts fed b us → CarriesOn alphas nodes s b us c vs → FeedsOn alphas nodes s a ts fed c vs
+  fed_and_carried c vs fed first then wm changes on =
+      subst (λ n. way alphas nodes s n wm (changes ++ fed) c vs) same (then wm (changes ++ fed) (subst (λ n. way alphas nodes s n wm (changes ++ fed) b us) (sym same) (first wm changes on)))
+
+  -- tasks are done, and then others
+  pub carried_on : (c : List Line) (vs : List Task) → CarriesOn alphas nodes s a ts b us → CarriesOn alphas nodes s b us c vs → CarriesOn alphas nodes s a ts c vs
+  carried_on c vs first then wm changes on =
+      subst (λ n. way alphas nodes s n wm changes c vs) same (then wm changes (subst (λ n. way alphas nodes s n wm changes b us) (sym same) (first wm changes on)))
+
+-- no change is fed
+pub fed_none : (alphas : List Alpha) (nodes : List Node) (s : Stored) (a : List Line) (ts : List Task) → FeedsOn alphas nodes s a ts [] a ts
+fed_none alphas nodes s a ts wm changes on = subst (λ cs. way alphas nodes s (length a) wm cs a ts) (sym (append-nil changes)) on
+
+-- ---- a whole phase: changes are fed, tasks done between them, and what is left is carried on to its end
 
 module _ (alphas : List Alpha) (nodes : List Node) (s : Stored) (sound : IsSound alphas nodes) (old mid : World) (quiet : old.counter ≡ 0)
     (step : Steps (held_of s) alphas nodes (placed (held_of s) nodes (length old.lines.items)) (world_of old) Clear (world_of mid)) where
-  pub by_phase : BeginLaw → StepsLaw → EndLaw → PlacedLaw → (fed alone new : World) (changes : List Change)
-      → numbers_of mid ≡ numbers_of old
-      → Went alphas nodes s (length mid.lines.items) mid changes fed → (world_of fed).done ≡ (world_of mid).done → numbers_of fed ≡ numbers_of mid
-      → Went alphas nodes s (length fed.lines.items) fed [] alone → (world_of alone).done ≡ (world_of fed).done → numbers_of alone ≡ numbers_of fed
-      → CarriesOn alphas nodes s alone.lines.items alone.flight.items new.lines.items []
+  pub by_turns : BeginLaw → EndLaw → (fed new : World) (changes : List Change)
+      → numbers_of mid ≡ numbers_of old → numbers_of fed ≡ numbers_of mid
+      → FeedsOn alphas nodes s mid.lines.items mid.flight.items changes fed.lines.items fed.flight.items
+      → CarriesOn alphas nodes s fed.lines.items fed.flight.items new.lines.items new.flight.items → new.counter ≡ 0
       → IsBundleOf alphas nodes s changes old new
-  by_phase begin_law steps_law end_law placed_law fed alone new changes mid_same fed_went fed_done fed_same alone_went alone_done alone_same carries wm holds =
+  by_turns begin_law end_law fed new changes mid_same fed_same feeds carries none wm holds =
       let rest = at_rest alphas nodes s sound old mid quiet step wm holds in
-      let none = done_stays alphas nodes s sound old mid quiet step in
-      let begun = subst (way alphas nodes s (length old.lines.items) wm [] mid.lines.items) (sym (flight_stays alphas nodes s sound old mid quiet step))
-      (begin_law (held_of s) alphas nodes (placed (held_of s) nodes (length old.lines.items)) wm (map seen mid.lines.items) rest.empty rest.holds) in
+      let n = length old.lines.items in
+      let begun = subst (way alphas nodes s n wm [] mid.lines.items) (sym (flight_stays alphas nodes s sound old mid quiet step))
+      (begin_law (held_of s) alphas nodes (placed (held_of s) nodes n) wm (map seen mid.lines.items) rest.empty rest.holds) in
       let begun' = subst (λ n. way alphas nodes s n wm [] mid.lines.items mid.flight.items) (sym (same_count old mid mid_same)) begun in
-      let all_fed = by_steps alphas nodes s steps_law placed_law sound mid fed changes fed_went none (fed_done ∙ none) wm [] begun' in
-      let all_fed' = subst (λ n. way alphas nodes s n wm changes fed.lines.items fed.flight.items) (sym (same_count mid fed fed_same)) all_fed in
-      let worked = by_work alphas nodes s steps_law placed_law sound fed alone alone_went (fed_done ∙ none) (alone_done ∙ (fed_done ∙ none)) wm changes all_fed' in
-      let worked' = subst (λ n. way alphas nodes s n wm changes alone.lines.items alone.flight.items) (sym (same_count fed alone alone_same)) worked in
-      let count = same_count fed alone alone_same ∙ (same_count mid fed fed_same ∙ same_count old mid mid_same) in
-      end_law (held_of s) alphas nodes (placed (held_of s) nodes (length old.lines.items)) wm changes (map seen new.lines.items)
-      (subst (λ n. way alphas nodes s n wm changes new.lines.items []) count (carries wm changes worked'))
+      let all = fed_and_carried alphas nodes s mid.lines.items fed.lines.items mid.flight.items fed.flight.items (same_count mid fed fed_same) new.lines.items new.flight.items changes feeds carries in
+      let whole = subst (way alphas nodes s (length mid.lines.items) wm changes new.lines.items) (none_in_flight new none) (all wm [] begun') in
+      end_law (held_of s) alphas nodes (placed (held_of s) nodes n) wm changes (map seen new.lines.items)
+      (subst (λ n. way alphas nodes s n wm changes new.lines.items []) (same_count old mid mid_same) whole)

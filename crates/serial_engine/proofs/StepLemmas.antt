@@ -1,5 +1,5 @@
 -- One run after another, and the last task in flight.
-use Rattle.std.proofs.Common.{inl, inr, ◌≡◌, ℕ, zero, suc, ◌+◌, ◌-◌, ◌<◌, ◌≤◌, List, [], ◌∷◌, ◌++◌, refl, sym, ap, ap₂, subst, ◌∙◌, arith, length, take, slice_get, Some}
+use Rattle.std.proofs.Common.{inl, inr, ◌≡◌, ℕ, zero, suc, ◌+◌, ◌-◌, ◌<◌, ◌≤◌, List, [], ◌∷◌, ◌++◌, refl, sym, ap, ap₂, subst, ◌∙◌, arith, length, map, take, slice_get, Some}
 use Rattle.std.specs.List.{All}
 use Rattle.std.proofs.lemmas.Grind.{flat_map-append}
 use Rattle.std.proofs.lemmas.List.{take-take, length-take-le}
@@ -98,6 +98,10 @@ module _ (child_law : ChildLaw) (alphas : List Alpha) (nodes : List Node) (sound
 
 pub same_count : (v w : Code.World) → numbers_of w ≡ numbers_of v → length w.lines.items ≡ length v.lines.items
 same_count v w same = sym (length-map w.lines.items (λ (l : Line). l.number)) ∙ (ap length same ∙ length-map v.lines.items (λ (l : Line). l.number))
+
+-- lines with the same numbers are as many
+pub same_lines : (ls ms : List Line) → map (λ (l : Line). l.number) ms ≡ map (λ (l : Line). l.number) ls → length ms ≡ length ls
+same_lines ls ms same = sym (length-map ms (λ (l : Line). l.number)) ∙ (ap length same ∙ length-map ls (λ (l : Line). l.number))
 
 module _ {X : Type 0} (front after : List X) (m : ℕ) (low : length front < m) (high : m ≤ length (front ++ after)) (ws : List X) (is : ws ≡ take m (front ++ after)) where
   pub some_left : 1 ≤ length ws

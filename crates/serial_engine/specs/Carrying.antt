@@ -1,5 +1,5 @@
--- What carries a phase on, from one world to another.
-use Rattle.std.specs.Prelude.{◌≡◌, List, length, map}
+-- What carries a phase on, from one world to another, and what feeds it.
+use Rattle.std.specs.Prelude.{◌≡◌, ◌++◌, List, length, map}
 use Rattle.ops_base.specs.declared.elements.Element.{Element}
 use Rattle.ops_base.specs.declared.elements.Change.{Change}
 use Rattle.work_store.specs.Stored.{Stored, held_of}
@@ -19,3 +19,10 @@ CarriesOn alphas nodes s old waiting new waiting' =
     (wm : List Element) (changes : List Change)
     → IsUnderWay (held_of s) alphas nodes (placed (held_of s) nodes (length old)) wm changes (map seen old) waiting
     → IsUnderWay (held_of s) alphas nodes (placed (held_of s) nodes (length old)) wm changes (map seen new) waiting'
+
+-- The same where these changes are fed meanwhile, after those of the phase so far.
+abbrev pub FeedsOn : List Alpha → List Node → Stored → (lines : List Line) → List Task → List Change → List Line → List Task → Type 0
+FeedsOn alphas nodes s old waiting fed new waiting' =
+    (wm : List Element) (changes : List Change)
+    → IsUnderWay (held_of s) alphas nodes (placed (held_of s) nodes (length old)) wm changes (map seen old) waiting
+    → IsUnderWay (held_of s) alphas nodes (placed (held_of s) nodes (length old)) wm (changes ++ fed) (map seen new) waiting'

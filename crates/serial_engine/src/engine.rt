@@ -179,12 +179,12 @@ impl<G: Gate + Drop> Matcher for SerialEngine<G> {
 
     /// Feeds the tasks of the changes, and then does the last task in flight with all that comes of it, down to the
     /// terminals, before the one that was fed before it. So beside the fed tasks few are in flight at a time, and the
-    /// changes are worked from the last to the first. A modification removes the old element and then adds the new
-    /// one, so here the new one comes before the old one goes: a negated node that both block puts nothing out in
-    /// between. Where the changes feed thousands of tasks, those that are fed are done before more are, so that the
-    /// tasks in flight take a few hundred kilobytes at most, and what one task puts out. It takes time for the tasks that it does, for the lines that they were done on, and for the nodes
-    /// that a change is fed to: `World::feed` and `World::work` say how much. What it removed is kept until the next
-    /// settle.
+    /// changes are worked from the last to the first. A modification removes the old element and then adds the new one,
+    /// so here the new one comes before the old one goes: a negated node that both block puts nothing out in between.
+    /// Where the changes feed thousands of tasks, those that are fed are done before more are, so that the tasks in
+    /// flight take a few hundred kilobytes at most, and what one task puts out. It takes time for the tasks that it
+    /// does, for the lines that they were done on, and for the nodes that a change is fed to: `World::feed` and
+    /// `World::work` say how much. What it removed is kept until the next settle.
     fn settle(
         self,
         alloc: Global,

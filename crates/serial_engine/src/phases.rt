@@ -23,7 +23,7 @@ use work_store::Store;
 
 /// While changes are fed, this many tasks in flight are done before the next change is fed. So a phase of many changes
 /// holds a few hundred kilobytes of tasks at a time, which stay near the processor, and not all that its changes feed.
-const TASKS_AT_ONCE: usize = 4_096;
+pub(crate) const TASKS_AT_ONCE: usize = 4_096;
 
 /// Whether this many tasks are in flight, where a number is asked for.
 fn is_full(world: &World, most: Option<usize>) -> bool
@@ -98,7 +98,7 @@ pub fn work_all<F: Fn(usize)>(
 }
 
 /// Puts the tasks of all changes into flight, in the order of the changes.
-pub fn feed_all(
+fn feed_all(
     alloc: Global,
     net: &Net,
     store: &Store,
@@ -212,8 +212,8 @@ fn feed_in_turns<F: Fn(usize)>(
     Ok(())
 }
 
-/// Puts the tasks of the changes into flight. Without picks some are done between two changes, as room asks for it; with
-/// picks all changes are fed first, and then a task is done for each pick.
+/// Puts the tasks of the changes into flight. Without picks some are done between two changes, as room asks for it;
+/// with picks all changes are fed first, and then a task is done for each pick.
 fn feed_changes<F: Fn(usize)>(
     alloc: Global,
     net: &Net,
@@ -308,9 +308,9 @@ pub fn do_changes(alloc: Global, store: &mut Store, changes: &[Change]) -> Resul
 
 /// Does the changes to the store, and their phase over lines that hold just the tokens over it. The lines then hold
 /// just the tokens over the store with the changes done, and their entries are a bundle of the changes. With picks, all
-/// changes are fed at once, and a task is done for each pick. Otherwise tasks are done while changes are fed, as soon as
-/// `TASKS_AT_ONCE` are in flight. At the end the last task in flight is next. `enter` gets the line of each task just
-/// before it is done.
+/// changes are fed at once, and a task is done for each pick. Otherwise tasks are done while changes are fed, as soon
+/// as `TASKS_AT_ONCE` are in flight. At the end the last task in flight is next. `enter` gets the line of each task
+/// just before it is done.
 pub fn settle<F: Fn(usize)>(
     alloc: Global,
     net: &Net,

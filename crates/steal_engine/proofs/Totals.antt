@@ -55,7 +55,8 @@ module _ {J P : Type 0} (ready : P → Type 0) (number : P → ℕ) (rounds : P 
     abbrev stole : Worked J P → ℕ
     stole e = sum_by h (thief_stolen e.thief)
 
-    -- where memory ran out at none, all that were done, and all that were pushed, are the children of all, with what was dealt, popped and stolen
+    -- where memory ran out at none, all that were done, and all that were pushed, are the children of all, with what
+    -- was dealt, popped and stolen
     pub totals : (ss : List (Seat J P)) (es : List (Worked J P)) → AllZip Ended ss es → All (λ (e : Worked J P). IsTrue e.whole) es
         → sum_by done es + sum_by gave es ≡ ((sum_by made es + sum_by dealt ss) + sum_by took es) + sum_by stole es
     totals [] [] z whole = refl

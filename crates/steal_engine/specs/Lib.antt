@@ -1,5 +1,4 @@
 -- Lines in cells, deques of a team, and what all workers did together.
-pub mod Engines
 pub mod Phased
 pub mod Opened
 pub mod Rows

@@ -6,7 +6,7 @@ ghost use Rattle.step_core.specs.Laws.{AreEmpty};
 ghost use Rattle.step_core.specs.Phases.{HoldJust, now, sums_over};
 ghost use Rattle.step_core.specs.Worlds.{AreNumbered, placed, seen};
 
-use crate::phases::{Sharing, settle};
+use crate::phases::{WORTH, settle};
 use net_base::net::Net;
 use ops_base::elements::Change;
 use ops_base::memory::OutOfMemory;
@@ -18,6 +18,7 @@ use std::sync::Wait;
 use std::thread::Threads;
 use step_core::laws::{match_laws, settle_laws};
 use step_core::{Gathered, World};
+use team_phase::Sharing;
 use token_line::Line;
 use work_store::{Matcher, Settled, Store};
 
@@ -43,8 +44,8 @@ impl<G> Model for StealEngine<G> {
     ghost use Rattle.std.specs.Coded.{codes};
     ghost use Rattle.net_base.specs.contracts.net.Net as nets;
     ghost use Rattle.step_core.specs.contracts.world.World as worlds;
-    ghost use Rattle.steal_engine.specs.contracts.phases.Sharing as sharings;
-    ghost use Rattle.steal_engine.specs.Engines.{CanSettle, Engine};
+    ghost use Rattle.team_phase.specs.contracts.phases.Sharing as sharings;
+    ghost use Rattle.team_phase.specs.Engines.{CanSettle, Engine};
 
     ghost Value = { Engine };
 
@@ -84,6 +85,7 @@ impl<G: Drop> StealEngine<G> {
             gate,
             sharing: Sharing {
                 workers,
+                worth: WORTH,
                 shared: false,
             },
         };
@@ -124,12 +126,12 @@ impl<G: Gate + Drop> StealEngine<G> {
     }
 
     /// Feeds all changes, and does their tasks and all that comes of them: on the calling thread, or by several
-    /// workers, each with a deque from which the one before it steals; the calling thread does what they leave. The work
-    /// is shared where many tasks are in flight and the last of them have many partners, and once where two or more but
-    /// few are fed. It takes time for the tasks that it does, for the lines that they were done on, and for the nodes
-    /// that a change is fed to. Where many were in flight it also looks at each line, and moves each where the work was
-    /// shared. It may wait for other threads, and it is not promised that their turns come. What it removed is kept
-    /// until the next settle.
+    /// workers, each with a deque from which the one before it steals; the calling thread does what they leave. The
+    /// work is shared where many tasks are in flight and the last of them have many partners, and once where two or
+    /// more but few are fed. It takes time for the tasks that it does, for the lines that they were done on, and for
+    /// the nodes that a change is fed to. Where many were in flight it also looks at each line, and moves each where
+    /// the work was shared. It may wait for other threads, and it is not promised that their turns come. What it
+    /// removed is kept until the next settle.
     pub fn settle_shared<R: Threads + Wait + Sync>(
         self,
         rt: &R,

@@ -23,6 +23,10 @@ use turn_table::Pass;
 /// A worker pushes while its deque has fewer tasks than this.
 const FEW: usize = 8;
 
+/// So often a worker that had no task yet looks for one where none has any: the others may be about to begin. To start
+/// a thread takes longer than to look.
+const FIRST_LOOKS: usize = 64;
+
 /// Pushes tasks from the end of the list while few stand in the deque; one stays. What is refused stays too.
 pub(crate) fn push_some<J: Fitting>(own: &mut OwnEnd<J>, list: &mut Vec<Task>)
     requires { All J.fits list.old.items }
@@ -128,7 +132,7 @@ pub(crate) fn work<R: Wait, G: Gate, J: Fitting>(
         match next_task(&mut own, &mut thief, &mut list) {
             None => {
                 presence.rest(phase.busy);
-                if phase.busy.load(Ordering::SeqCst) == 0 {
+                if presence.is_over(phase.busy) {
                     return Worked {
                         pass,
                         own,
@@ -158,11 +162,13 @@ pub(crate) fn work<R: Wait, G: Gate, J: Fitting>(
     unreachable!()
 }
 
-/// Whether a worker is counted among those at work, and how long it looked in vain. It is counted once it has a task, and
-/// not before: where a thread can't be started, its worker begins after another one on the same thread has ended.
+/// Whether a worker is counted among those at work, how often it still looks where none is, and how long it looked in
+/// vain. It is counted once it has a task, and not before: where a thread can't be started, its worker begins after
+/// another one on the same thread has ended.
 #[derive(Drop)]
 struct Presence {
     backoff: Backoff,
+    looks: usize,
     counted: bool,
 }
 
@@ -170,6 +176,7 @@ impl Presence {
     fn new() -> Presence {
         Presence {
             backoff: Backoff::new(),
+            looks: FIRST_LOOKS,
             counted: false,
         }
     }
@@ -179,6 +186,7 @@ impl Presence {
         if !self.counted {
             let _others = busy.fetch_add(1, Ordering::SeqCst);
             self.counted = true;
+            self.looks = 0;
         }
         self.backoff.reset();
     }
@@ -189,5 +197,17 @@ impl Presence {
             let _others = busy.fetch_sub(1, Ordering::SeqCst);
             self.counted = false;
         }
+    }
+
+    /// Whether the worker, which has no task, ends: no worker has one, and it looked often enough.
+    fn is_over(&mut self, busy: &AtomicUsize) -> bool {
+        if busy.load(Ordering::SeqCst) > 0 {
+            return false;
+        }
+        if self.looks == 0 {
+            return true;
+        }
+        self.looks -= 1;
+        false
     }
 }

@@ -1,5 +1,5 @@
 //! What the two ends of a deque do.
-ghost use Rattle.std.specs.Prelude.{◌≡◌, ◌++◌, [], ◌∷◌, IfOk, MatchResult, MatchOption, IfNone, IfSome};
+ghost use Rattle.std.specs.Prelude.{◌≡◌, ◌++◌, [], ◌∷◌, IfOk, MatchResult, MatchOption, IfNone, IfSome, OnErr};
 ghost use Rattle.task_deque.specs.Rule.{AreSame};
 ghost use Rattle.task_deque.specs.Ends.{IsWhole, IsLent, of, own_of, pushed, popped, stolen, thief_of, thief_stolen};
 
@@ -44,6 +44,7 @@ impl<J: Fitting> OwnEnd<J> {
         ensures deque { of self.new ≡ of self.old }
         ensures lent { IfOk result (λ e. IsLent self.new × (thief_of e ≡ of self.old)) }
         ensures stolen { IfOk result (λ e. thief_stolen e ≡ stolen self.old) }
+        ensures err { OnErr result ((own_of self.new ≡ own_of self.old) × (stolen self.new ≡ stolen self.old)) }
     {
         let Ok(stealer) = self.worker.stealer() else {
             return Err(OutOfMemory);

@@ -1,5 +1,6 @@
--- Nothing is under way where the phase begins and where it ends, and steps and rounds carry it from the one to the other.
-use Rattle.std.proofs.Common.{length, map, sym, ap, subst, ◌∙◌, arith}
+-- Nothing is under way where the phase begins and where it ends, and what feeds it and carries it on leads from the one to
+-- the other.
+use Rattle.std.proofs.Common.{length, map, sym, ap, subst, ◌∙◌}
 use Rattle.std.specs.List.{All}
 use Rattle.std.proofs.lemmas.List.{length-map}
 use Rattle.std.proofs.lemmas.List.Elements.{All-nil}
@@ -8,13 +9,12 @@ use Rattle.token_line.specs.Held.{TaskFits}
 use Rattle.step_core.specs.inner.Doing.{entry_of}
 use Rattle.step_core.specs.Worlds.{EntryFits, placed}
 use Rattle.serial_engine.proofs.PhaseLemmas.{done_stays, none_in_flight, none_is_done}
+use Rattle.serial_engine.proofs.Carried.{by_turns}
 use Rattle.serial_engine.proofs.StepLemmas.{same_count}
-use Rattle.serial_engine.proofs.Carried.{by_phase}
-use Rattle.rounds_engine.proofs.Results.{on_ok}
 use Rattle.rounds_engine.proofs.phases.run_phase.Goals as goal
 
-pub feed_all-requires-clause-ready : goal.feed_all-requires-clause-ready
-feed_all-requires-clause-ready g c =
+pub feed_in_turns-requires-clause-ready : goal.feed_in_turns-requires-clause-ready
+feed_in_turns-requires-clause-ready g c κs within =
     let nodes = c.args.ground.now.net.now.nodes in
     let s = c.args.ground.now.store.now in
     let old = c.args.world.now in
@@ -24,33 +24,26 @@ feed_all-requires-clause-ready g c =
       lines = c.requires.counted;
     })
 
-pub work_alone-requires-clause-lines : goal.work_alone-requires-clause-lines
-work_alone-requires-clause-lines g c =
-    let a = same_count c.args.world.now c.clear_phase.new.self c.clear_phase.ensures.lines in
-    let b = same_count c.clear_phase.new.self c.feed_all.new.world c.feed_all.ensures.lines in
-    let all = c.requires.all in omega (arith, a, b, all)
+pub feed_in_turns-requires-clause-lines : goal.feed_in_turns-requires-clause-lines
+feed_in_turns-requires-clause-lines g c κs within = same_count c.args.world.now c.clear_phase.new.self c.clear_phase.ensures.lines ∙ c.requires.all
 
-pub work_in_rounds-requires-clause-lines : goal.work_in_rounds-requires-clause-lines
-work_in_rounds-requires-clause-lines g c κs within =
-    let a = same_count c.args.world.now c.clear_phase.new.self c.clear_phase.ensures.lines in
-    let b = same_count c.clear_phase.new.self c.feed_all.new.world c.feed_all.ensures.lines in
-    let d = same_count c.feed_all.new.world c.work_alone.new.world c.work_alone.ensures.lines in
-    let all = c.requires.all in omega (arith, a, b, d, all)
+pub work_off-requires-clause-lines : goal.work_off-requires-clause-lines
+work_off-requires-clause-lines g c κs within =
+    same_count c.args.world.now c.feed_in_turns.new.world (c.in_ok-feed_in_turns.ensures.numbers ∙ c.clear_phase.ensures.lines) ∙ c.requires.all
 
-pub work_in_rounds-requires-clause-done : goal.work_in_rounds-requires-clause-done
-work_in_rounds-requires-clause-done g c κs within =
+pub feed_in_turns-requires-clause-done : goal.feed_in_turns-requires-clause-done
+feed_in_turns-requires-clause-done g c κs within =
     let net = c.args.ground.now.net.now in
     let s = c.args.ground.now.store.now in
     let old = c.args.world.now in
     let cleared = c.clear_phase.ensures.steps (held_of s) net.alphas net.nodes (placed (held_of s) net.nodes (length old.lines.items)) in
-    let none = done_stays net.alphas net.nodes s net.sound old c.clear_phase.new.self c.requires.quiet cleared in
-    let done = c.in_ok-work_alone.ensures.done ∙ (c.in_ok-feed_all.ensures.done ∙ none) in
-    sym (length-map c.work_alone.new.world.done.items entry_of) ∙ ap length done
+    sym (length-map c.clear_phase.new.self.done.items entry_of) ∙ ap length (done_stays net.alphas net.nodes s net.sound old c.clear_phase.new.self c.requires.quiet cleared)
+
+pub returns-clause-counted : goal.returns-clause-counted
+returns-clause-counted g c = c.in_ok-work_off.ensures.ready.lines
 
 pub returns-clause-lines : goal.returns-clause-lines
-returns-clause-lines g c =
-    let rest = c.work_alone.ensures.lines ∙ (c.feed_all.ensures.lines ∙ c.clear_phase.ensures.lines) in
-    on_ok _ _ c.work_in_rounds.result (λ is. is ∙ rest) c.work_in_rounds.ensures.numbers
+returns-clause-lines g c = c.in_ok-work_off.ensures.numbers ∙ (c.in_ok-feed_in_turns.ensures.numbers ∙ c.clear_phase.ensures.lines)
 
 pub returns-clause-bundle : goal.returns-clause-bundle
 returns-clause-bundle g c =
@@ -58,10 +51,7 @@ returns-clause-bundle g c =
     let s = c.args.ground.now.store.now in
     let old = c.args.world.now in
     let cleared = c.clear_phase.ensures.steps (held_of s) net.alphas net.nodes (placed (held_of s) net.nodes (length old.lines.items)) in
-    on_ok _ _ c.work_in_rounds.result
-    (λ is. by_phase net.alphas net.nodes s net.sound old c.clear_phase.new.self c.requires.quiet cleared
-    c.round_laws.ensures.begin c.round_laws.ensures.steps c.round_laws.ensures.end c.settle_laws.ensures.placed c.feed_all.new.world c.work_alone.new.world c.work_in_rounds.new.world c.args.changes.now
-    c.clear_phase.ensures.lines
-    c.in_ok-feed_all.ensures.went c.in_ok-feed_all.ensures.done c.feed_all.ensures.lines
-    c.in_ok-work_alone.ensures.went c.in_ok-work_alone.ensures.done c.work_alone.ensures.lines
-    is) c.work_in_rounds.ensures.carries
+    by_turns net.alphas net.nodes s net.sound old c.clear_phase.new.self c.requires.quiet cleared
+    c.round_laws.ensures.begin c.round_laws.ensures.end c.feed_in_turns.new.world c.work_off.new.world c.args.changes.now
+    c.clear_phase.ensures.lines c.in_ok-feed_in_turns.ensures.numbers
+    c.in_ok-feed_in_turns.ensures.feeds c.in_ok-work_off.ensures.carries c.in_ok-work_off.ensures.quiet

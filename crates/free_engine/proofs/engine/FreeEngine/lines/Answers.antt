@@ -4,7 +4,7 @@ use Rattle.std.specs.List.{All}
 use Rattle.token_line.specs.declared.line.Line.{Line}
 use Rattle.activation.specs.Acting.{TellsOfLasts}
 use Rattle.free_engine.specs.declared.engine.Parts.{Parts}
-use Rattle.free_engine.specs.Engines.{Engine}
+use Rattle.team_phase.specs.Engines.{Engine}
 use Rattle.free_engine.proofs.engine.FreeEngine.lines.Goals as goal
 
 pub returns-clause-told : goal.returns-clause-told

@@ -5,7 +5,7 @@ use Rattle.step_core.specs.Worlds.{AreNumbered}
 use Rattle.serial_engine.proofs.StartLemmas.{numbers_stay}
 use Rattle.serial_engine.proofs.StepLemmas.{same_count}
 use Rattle.free_engine.specs.declared.engine.Parts.{Parts}
-use Rattle.free_engine.specs.Engines.{Engine}
+use Rattle.team_phase.specs.Engines.{Engine}
 use Rattle.free_engine.proofs.engine.FreeEngine.settle_freely.Goals as goal
 
 pub invariant_of-result : goal.invariant_of-result

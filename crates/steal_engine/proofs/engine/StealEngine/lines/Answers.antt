@@ -4,7 +4,7 @@ use Rattle.std.specs.List.{All}
 use Rattle.token_line.specs.declared.line.Line.{Line}
 use Rattle.activation.specs.Acting.{TellsOfLasts}
 use Rattle.steal_engine.specs.declared.engine.Parts.{Parts}
-use Rattle.steal_engine.specs.Engines.{Engine}
+use Rattle.team_phase.specs.Engines.{Engine}
 use Rattle.steal_engine.proofs.engine.StealEngine.lines.Goals as goal
 
 pub returns-clause-told : goal.returns-clause-told

@@ -5,7 +5,7 @@ use Rattle.step_core.specs.Laws.{AreEmpty}
 use Rattle.step_core.specs.Phases.{HoldJust, sums_over, now}
 use Rattle.step_core.specs.Worlds.{placed, seen}
 use Rattle.steal_engine.specs.declared.engine.Parts.{Parts}
-use Rattle.steal_engine.specs.Engines.{CanSettle}
+use Rattle.team_phase.specs.Engines.{CanSettle}
 use Rattle.serial_engine.proofs.StartLemmas.{start_empty, start_holds}
 use Rattle.steal_engine.proofs.engine.StealEngine.new.Goals as goal
 

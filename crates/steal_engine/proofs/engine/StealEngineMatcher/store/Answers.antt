@@ -5,7 +5,7 @@ use Rattle.ops_base.specs.Instances.{IsConflictSet}
 use Rattle.net_base.specs.Network.{NetOf}
 use Rattle.step_core.specs.Found.{found_over}
 use Rattle.steal_engine.specs.declared.engine.Parts.{Parts}
-use Rattle.steal_engine.specs.Engines.{Engine}
+use Rattle.team_phase.specs.Engines.{Engine}
 use Rattle.serial_engine.proofs.SettleLemmas.{stored_wm}
 use Rattle.steal_engine.proofs.engine.StealEngineMatcher.store.Goals as goal
 

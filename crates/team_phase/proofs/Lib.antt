@@ -1,0 +1,2 @@
+-- What holds of results.
+mod Results

@@ -1,0 +1,3 @@
+-- What an engine is whose phases a team may share, and what a team does.
+pub mod Engines
+pub mod Helping
