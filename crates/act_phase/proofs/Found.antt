@@ -29,7 +29,7 @@ last_added_push changes c tag = fold-append (adds tag) None changes (c ∷ [])
 abbrev IsBelow : List Element → ℕ → Type 0
 IsBelow wm last = (t : ℕ) → has_tag wm t ≡ true → t ≤ last
 
-none_there : (wm : List Element) (tag : ℕ) → has_tag wm tag ≡ false → element_of wm tag ≡ None
+pub none_there : (wm : List Element) (tag : ℕ) → has_tag wm tag ≡ false → element_of wm tag ≡ None
 none_there wm tag gone = by (element_of wm tag) (found_there wm tag ∙ gone)
   where
     by : (o : Option Element) → is_some o ≡ false → o ≡ None
@@ -52,7 +52,7 @@ found_last wm x tag b none same =
     find-append (λ e. e.tag == tag) wm (x ∷ []) ∙ ap (λ o. option_or o (element_of (x ∷ []) tag)) none ∙ ap (λ b. cond b (Some x) None) same
 
 -- another one is taken out
-found_still : (wm : List Element) (t tag : ℕ) → (tag == t) ≡ false → element_of (without_tag t wm) tag ≡ element_of wm tag
+pub found_still : (wm : List Element) (t tag : ℕ) → (tag == t) ≡ false → element_of (without_tag t wm) tag ≡ element_of wm tag
 found_still [] t tag apart = refl
 found_still (e ∷ wm) t tag apart = by (e.tag == t) (e.tag == tag) refl refl (found_still wm t tag apart)
   where

@@ -1,9 +1,13 @@
+pub mod Alike
 pub mod Asking
 pub mod AtomLemmas
+pub mod Between
 pub mod Cells
 pub mod Computed
+pub mod Copied
 pub mod Counts
 pub mod Deeds
+pub mod Enough
 pub mod Evaluating
 pub mod Following
 pub mod Found

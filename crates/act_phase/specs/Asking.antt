@@ -1,5 +1,5 @@
 -- Where `accept` stands.
-use Rattle.std.specs.Prelude.{ℕ, List, Bool, true, false, ◌||◌}
+use Rattle.std.specs.Prelude.{ℕ, List, [], ◌∷◌, Bool, true, false, ◌&&◌, ◌||◌}
 use Rattle.std.specs.List.{list_any}
 use Rattle.ops_base.specs.declared.actions.Term.{Term}
 use Rattle.ops_base.specs.declared.actions.Term.TheVariants as term
@@ -37,6 +37,22 @@ action_asks (action.Remove cells) = false
 action_asks (action.Cbind cell) = false
 action_asks action.Halt = false
 action_asks (action.Build template holes) = false
+
+-- the action may change working memory
+abbrev pub action_changes : Action → Bool
+action_changes (action.Make class puts) = true
+action_changes (action.Modify cell puts) = true
+action_changes (action.Remove cells) = true
+action_changes (action.Write items) = false
+action_changes (action.Bind variable t) = false
+action_changes (action.Cbind cell) = false
+action_changes action.Halt = false
+action_changes (action.Build template holes) = false
+
+-- `accept` stands in one of these actions after one that may change working memory, or where it was changed before them
+abbrev pub asks_after : Bool → List Action → Bool
+asks_after changed [] = false
+asks_after changed (a ∷ rest) = (changed && action_asks a) || asks_after (changed || action_changes a) rest
 
 -- it stands in the right side of the production with this number
 abbrev pub right_side_asks : List Rule → ℕ → Bool

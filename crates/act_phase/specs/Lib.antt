@@ -2,6 +2,7 @@
 pub mod Asking
 pub mod Changed
 pub mod Deeds
+pub mod Excerpts
 pub mod Held
 pub mod Outcomes
 pub mod State

@@ -1,6 +1,7 @@
 -- What the state of a right side in the code stands for.
 use Rattle.std.specs.Prelude.{ℕ, List, [], ◌∷◌, Bool, true, nat_lt, slice_get, option_map, unwrap_or}
 use Rattle.ops_base.specs.Names.{Spellings}
+use Rattle.ops_base.specs.declared.actions.Action.{Action}
 use Rattle.ops_base.specs.declared.elements.Element.{Element}
 use Rattle.ops_base.specs.declared.elements.Change.{Change}
 use Rattle.ops_base.specs.declared.matching.Binding.{Binding}
@@ -37,6 +38,12 @@ abbrev pub is_there : ℕ → Cell → Bool
 is_there n (cell.Matched e) = true
 is_there n (cell.Made place) = nat_lt place n
 is_there n cell.Nothing = true
+
+-- a right side between two of its actions: its state, all its actions, and how many of them are done
+pub record Between : Type 0 where
+  pub state : State
+  pub actions : List Action
+  pub done : ℕ
 
 -- with these names in use, and this input still to come
 abbrev pub doing_of : State → Spellings → Coming → Meant

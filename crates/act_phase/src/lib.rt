@@ -9,20 +9,28 @@
 //! afterwards.
 #![tactic(auto)]
 
+mod acting;
 mod atoms;
 mod bindings;
 mod changed_memory;
+mod excerpts;
 mod expressions;
 mod fields;
 mod items;
+mod laws;
 mod outcome;
 mod removed_tags;
 mod right_side;
 mod state;
 mod traces;
 mod values;
+mod waiting;
 
+pub use acting::Acting;
+pub use excerpts::excerpt;
+pub use laws::an_excerpt_is_enough;
 pub use ops_base::endings::ActKind;
 pub use outcome::{ActFault, Acted};
 pub use right_side::act;
 pub use traces::{traces_elements, traces_firings};
+pub use waiting::{asks, asks_after_change};

@@ -235,7 +235,7 @@ fn act_one<I: Source, K: Sink>(
 }
 
 /// Does the action with this number.
-fn act_at<I: Source, K: Sink>(
+pub(crate) fn act_at<I: Source, K: Sink>(
     doing: &mut ActState<'_>,
     names: &mut Names,
     number: usize,
@@ -262,7 +262,7 @@ fn act_at<I: Source, K: Sink>(
     }
 }
 
-fn actions_of(program: &Program, rule: usize) -> &[Action]
+pub(crate) fn actions_of(program: &Program, rule: usize) -> &[Action]
     ensures { result.now ≡ actions_of program.now.rules rule }
 {
     match program.rules.as_slice().get(rule) {

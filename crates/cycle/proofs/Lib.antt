@@ -1,7 +1,7 @@
 pub mod Stores
-mod Above
-mod Members
+pub mod Above
+pub mod Members
 pub mod HeldAfter
 pub mod Marks
-mod Phases
-mod Firings
+pub mod Phases
+pub mod Firings

@@ -21,7 +21,7 @@ ghost use Rattle.conflict_index.specs.Applying.{marked};
 ghost use Rattle.conflict_index.specs.Indexed.{insts_of, nothing_indexed, waiting, KeepsSpecificities};
 ghost use Rattle.conflict_index.specs.Selecting.{IsFirst};
 ghost use Rattle.cycle.specs.Settles.{Settles};
-ghost use Rattle.cycle.specs.States.{alone, state_course};
+ghost use Rattle.cycle.specs.States.{Agree, alone, state_course};
 
 use crate::slot::Slot;
 use act_phase::{ActFault, act, traces_firings};
@@ -353,5 +353,25 @@ impl<M: Matcher> State<M> {
         ensures err { OnErr result (self.new ≡ self.old) }
     {
         self.index.as_mut().set_strategy(strategy)
+    }
+
+    /// Its matcher, its index, how many firings were made, and the last tag that was given. Takes no memory.
+    pub fn apart(self) -> (M, Index, u64, u64)
+        ensures matcher { result.0 ≡ self.matcher }
+        ensures index { result.1 ≡ self.index }
+        ensures firings { result.2 ≡ self.firings }
+        ensures last { result.3 ≡ (M.stored self.matcher).last }
+        ensures agree { Agree (M.stored self.matcher) (M.found self.matcher) (M.stands_for self.matcher) self.index.members }
+    {
+        // the two are looked at for what they keep true
+        let last = last_of(&self.matcher);
+        let _strategy = self.index.strategy();
+        let State {
+            matcher,
+            index,
+            firings,
+        } = self;
+        let (matcher, _place) = matcher.take();
+        (matcher, Box::into_inner(index), firings, last)
     }
 }
