@@ -15,3 +15,7 @@ pub mod Seen
 pub mod Ordered
 pub mod Computed
 pub mod Standings
+pub mod Told
+pub mod Orders
+pub mod Marks
+pub mod Excisions

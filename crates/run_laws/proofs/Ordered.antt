@@ -7,7 +7,7 @@ use Rattle.ops_base.specs.declared.commands.Command.TheVariants as command
 use Rattle.ops_base.specs.declared.commands.Fixed.{Fixed}
 use Rattle.ops_base.specs.declared.elements.Class.{Class}
 use Rattle.ops_base.specs.declared.values.Value.{Value}
-use Rattle.ops_base.specs.Valid.{class_of, is_attribute, is_vector, most_fields, fits, fixed_is_valid, fixed_are_valid, command_is_valid, is_valid}
+use Rattle.ops_base.specs.Valid.{class_of, is_attribute, is_vector, most_fields, fits, fixed_is_valid, fixed_are_valid, command_is_valid}
 use Rattle.ops_meaning.specs.Acting.{Setting}
 use Rattle.run_laws.specs.Programs.{AreValid}
 use Rattle.run_laws.specs.Finding.{is_class, fixed_finds, command_finds}

@@ -41,7 +41,7 @@ first_ranked (suc n) g rules insts within = by (dominant g rules insts)
     by None = refl
     by (Some i) = refl
 
-distinct_unfired : (rules : List Rule) (m : Course) → HasRisingTags m.wm → AreDistinct (unfired (conflict_set rules m.wm) m.fired)
+pub distinct_unfired : (rules : List Rule) (m : Course) → HasRisingTags m.wm → AreDistinct (unfired (conflict_set rules m.wm) m.fired)
 distinct_unfired rules m rising =
     AllPairs-filter (λ i j. i ≢ j) (λ i. not (is_among m.fired i)) (conflict_set rules m.wm)
     (in_order_distinct (conflict_set rules m.wm) (conflict_set-is rules m.wm rising).in_order)
@@ -58,7 +58,7 @@ standing_ranked rules m rising =
 -- ---- no other list is ranked so
 
 module _ (g : Strategy) (rules : List Rule) where
-  abbrev Over : Inst → Inst → Type 0
+  abbrev pub Over : Inst → Inst → Type 0
   Over i j = IsTrue (dominates g rules i j)
 
   not_itself : (i : Inst) → Over i i → ⊥
@@ -67,7 +67,7 @@ module _ (g : Strategy) (rules : List Rule) where
   not_both : (i j : Inst) → Over i j → Over j i → ⊥
   not_both i j a b = not_itself i (dominates_trans g rules i j i a b)
 
-  same_ranked : (xs ys : List Inst) → AllBefore Over xs → AllBefore Over ys → ((i : Inst) → IsMember i xs → IsMember i ys) → ((i : Inst) → IsMember i ys → IsMember i xs) → xs ≡ ys
+  pub same_ranked : (xs ys : List Inst) → AllBefore Over xs → AllBefore Over ys → ((i : Inst) → IsMember i xs → IsMember i ys) → ((i : Inst) → IsMember i ys → IsMember i xs) → xs ≡ ys
   same_ranked [] [] a b to from = refl
   same_ranked [] (y ∷ ys) a b to from = absurd (from y (inl refl))
   same_ranked (x ∷ xs) [] a b to from = absurd (to x (inl refl))

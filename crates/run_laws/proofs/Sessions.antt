@@ -20,7 +20,7 @@ use Rattle.ops_base.specs.declared.values.Sym.{Sym}
 use Rattle.ops_base.specs.ConflictSet.{conflict_set}
 use Rattle.ops_base.specs.Names.{Spellings}
 use Rattle.ops_base.specs.Refraction.{unfired, IsDominant}
-use Rattle.ops_base.specs.Valid.{class_of, no_class, class_is_valid, rule_is_valid, command_is_valid, fits, fixed_is_valid, fixed_are_valid, actions_are_valid, known_of, is_valid}
+use Rattle.ops_base.specs.Valid.{class_of, no_class, class_is_valid, rule_is_valid, command_is_valid, fits, fixed_is_valid, fixed_are_valid, actions_are_valid, known_of}
 use Rattle.ops_base.specs.WorkingMemory.{tags_of, without_tag}
 use Rattle.ops_base.proofs.ConflictSetLaws.{conflict_set-is}
 use Rattle.ops_base.proofs.DominanceLaws.{dominant_is}
@@ -38,7 +38,7 @@ use Rattle.ops_meaning.specs.Running.{Course, Turned, Session, LastFiring, begun
 use Rattle.ops_meaning.proofs.Lawful.{added_kept, kept_after, removals_lawful, removals_last, clearing_lawful, clearing_last}
 use Rattle.ops_meaning.proofs.RisingTags.{acts_lawfully}
 use Rattle.run_laws.specs.Elements.{IsWhole, AreWhole}
-use Rattle.ops_base.specs.Live.{without, moved_insts}
+use Rattle.ops_base.specs.Live.{without}
 use Rattle.run_laws.specs.Programs.{AreValid}
 use Rattle.run_laws.specs.Finding.{AllFind}
 use Rattle.run_laws.specs.Firings.{IfGoesOn, EachOfRun, EachOfCommand, EachOfCommands, EachFiring, FindsAll, HoldWhole, column_after_line}

@@ -12,3 +12,5 @@ pub mod Ranking
 pub mod Computing
 pub mod Predicates
 pub mod Standing
+pub mod Telling
+pub mod Excising

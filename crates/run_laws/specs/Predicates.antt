@@ -1,5 +1,5 @@
 -- Of which values each predicate holds.
-use Rattle.std.specs.Prelude.{◌≡◌, Bool, true, false, ℤ, pos, ◌-ℤ◌}
+use Rattle.std.specs.Prelude.{◌≡◌, Bool, true, false, pos, ◌-ℤ◌}
 use Rattle.ops_base.specs.declared.values.Pred.{Pred}
 use Rattle.ops_base.specs.declared.values.Pred.TheVariants.{Eq, Ne, Lt, Le, Gt, Ge, SameKind}
 use Rattle.ops_base.specs.declared.values.Value.{Value}

@@ -1,6 +1,6 @@
 //! What holds of programs by the definitions of running: the contracts of functions that do nothing.
-ghost use Rattle.std.specs.Prelude.{◌≡◌, ℕ, ◌<◌, ◌≤◌, List, [], ◌∷◌, ◌++◌, length, drop, map, slice_get, Some, if◌then◌else◌, Option, None, Ok, Bool, Contains, IsTrue, IfOk};
-ghost use Rattle.std.specs.List.{list_all};
+ghost use Rattle.std.specs.Prelude.{◌≡◌, ℕ, ◌<◌, ◌≤◌, List, [], ◌∷◌, ◌++◌, length, drop, filter, map, not, ◌==◌, slice_get, Some, if◌then◌else◌, Option, None, is_some, Ok, Bool, Contains, IsTrue, IfOk};
+ghost use Rattle.std.specs.List.{filter_map, list_all};
 ghost use Rattle.ops_base.specs.declared.actions.Action.{Action};
 ghost use Rattle.ops_base.specs.declared.actions.Term.{Term};
 ghost use Rattle.ops_base.specs.declared.commands.Command.{Command};
@@ -16,17 +16,19 @@ ghost use Rattle.ops_base.specs.declared.elements.Element.{Element};
 ghost use Rattle.ops_base.specs.declared.matching.Binding.{Binding};
 ghost use Rattle.ops_base.specs.declared.rules.Inst.{Inst};
 ghost use Rattle.ops_base.specs.declared.rules.Rule.{Rule};
+ghost use Rattle.ops_base.specs.declared.values.Sym.{Sym};
 ghost use Rattle.ops_base.specs.declared.values.Value.{Value};
 ghost use Rattle.ops_base.specs.ConflictSet.{conflict_set, empty_partial, insts_of, matches_of, walk};
 ghost use Rattle.ops_base.specs.Instances.{AreOf};
-ghost use Rattle.ops_base.specs.Live.{moved_insts};
+ghost use Rattle.ops_base.specs.Live.{moved_insts, without};
 ghost use Rattle.ops_base.specs.Matching.{after_tests, match_of};
 ghost use Rattle.ops_base.specs.Names.{Spellings};
 ghost use Rattle.ops_base.specs.Valid.{is_attribute};
 ghost use Rattle.ops_base.specs.WorkingMemory.{HasRisingTags, tags_of};
 ghost use Rattle.ops_io.specs.Coming.{Coming};
 ghost use Rattle.ops_meaning.specs.Acting.{Setting, Given, ActState, actions_of, action_done, actions_done, begun, evaluated, values_placed};
-ghost use Rattle.ops_meaning.specs.Layout.{inst_text};
+ghost use Rattle.ops_meaning.specs.Effects.{writes};
+ghost use Rattle.ops_meaning.specs.Layout.{inst_text, lines_at, unknown_line};
 ghost use Rattle.ops_meaning.specs.Partials.{left_side, partial_tags};
 ghost use Rattle.ops_meaning.specs.Running.{Course, Session, added, command_done, element_lines, ending_of, in_force, lists, meets, removals, rule_named, session_of, standing_by, taken_out};
 ghost use Rattle.run_laws.specs.Beginning.{BeginsAsMatched};
@@ -35,14 +37,21 @@ ghost use Rattle.run_laws.specs.Predicates.{EqualityHolds, OrderHolds, KindHolds
 ghost use Rattle.run_laws.specs.Cuts.{GoesOnWith};
 ghost use Rattle.run_laws.specs.Elements.{AreFieldsOf, AreWhole};
 ghost use Rattle.run_laws.specs.Ending.{IsOfSession};
+ghost use Rattle.run_laws.specs.Excising.{AreNamedApart, is_named, left_by, left_inst, left_number, names_told};
 ghost use Rattle.run_laws.specs.Finding.{AllFind, EachAction, LeadTo, RemovalsFind, SeesTheSame, WalkFinds, command_finds, condition_finds, is_single, test_finds, tests_find};
 ghost use Rattle.run_laws.specs.Firings.{EachFiring, FindsAll};
 ghost use Rattle.run_laws.specs.Patterns.{condition_with, meeting};
 ghost use Rattle.run_laws.specs.Placing.{StandAt};
 ghost use Rattle.run_laws.specs.Programs.{AreValid};
 ghost use Rattle.run_laws.specs.Ranking.{HasRank, IsRanking};
-ghost use Rattle.run_laws.specs.Standing.{stands_in};
+ghost use Rattle.run_laws.specs.Standing.{ranking_in, stands_in};
+ghost use Rattle.run_laws.specs.Telling.{AreTold, told_line};
+ghost use Rattle.why.specs.declared.explaining.BoundInst.{BoundInst};
+ghost use Rattle.why.specs.declared.explaining.Why.TheVariants.{Found};
+ghost use Rattle.why.specs.Bindings.{Binds};
+ghost use Rattle.why.specs.Explaining.{explanation, insts_in};
 ghost use Rattle.why.specs.Partials.{AreUpTo};
+ghost use Rattle.why_lines.specs.WhyLines.{rule_lines};
 
 /// A right side begins with the bindings with which the walk over its conditions accepted the instantiation, and with
 /// its elements in the cells.
@@ -186,11 +195,44 @@ pub fn predicates_hold()
 {}
 
 /// If a production is taken out, those stand that stood before and are of other productions, under the new numbers of
-/// these. If one is added under a name that no production has, its instantiations stand beside those that stood.
+/// these. If one is added under a name that no production has, its instantiations stand beside those that stood. If a
+/// production has its name, that one is taken out first. In each case the others stay in their order of dominance. The
+/// marks of a session are of productions in force.
 pub fn others_stand_as_before()
     ensures taken { (n : ℕ) (k : Session) → stands_in (taken_out n k) ≡ moved_insts n (stands_in k) }
     ensures added { (r : Rule) (k : Session) → rule_named k.rules r.name ≡ None → AreOf k.rules k.course.fired
         → stands_in (added r k) ≡ stands_in k ++ insts_of (length k.rules) (matches_of k.course.wm r.conditions) }
+    ensures replaced { (r : Rule) (n : ℕ) (k : Session) → rule_named k.rules r.name ≡ Some n → AreOf k.rules k.course.fired
+        → stands_in (added r k) ≡ moved_insts n (stands_in k) ++ insts_of (length (without n k.rules)) (matches_of k.course.wm r.conditions) }
+    ensures taken_order { (n : ℕ) (k : Session) → HasRisingTags k.course.wm → ranking_in (taken_out n k) ≡ moved_insts n (ranking_in k) }
+    ensures added_order { (r : Rule) (k : Session)
+        → HasRisingTags k.course.wm → rule_named k.rules r.name ≡ None → AreOf k.rules k.course.fired
+        → filter (λ i. not (i.rule == length k.rules)) (ranking_in (added r k)) ≡ ranking_in k }
+    ensures replaced_order { (r : Rule) (n : ℕ) (k : Session)
+        → HasRisingTags k.course.wm → rule_named k.rules r.name ≡ Some n → AreOf k.rules k.course.fired
+        → filter (λ i. not (i.rule == length (without n k.rules))) (ranking_in (added r k)) ≡ moved_insts n (ranking_in k) }
+    ensures marks { (s : Setting) (limit : ℕ) (commands : List Command) (names : Spellings) (coming : Coming)
+        → IfOk (session_of s limit commands names coming).outcome (λ k. AreOf k.rules k.course.fired) }
+{}
+
+/// `excise` leaves exactly the productions that have none of its names, in their order, each with its break and its
+/// marks under its new number, and changes nothing else. What stands of them stays in its order of dominance. It tells
+/// a name that no production has, and one that it was given before. No two productions of a session have one name.
+pub fn excise_takes_out_what_it_names()
+    ensures excised { (s : Setting) (limit column : ℕ) (names : List Sym) (k : Session)
+        → AreNamedApart k.rules
+        → command_done s limit column (Command.Excise names) k
+        ≡ writes (lines_at column (map (unknown_line k.course.names) (names_told k.rules [] names))) (left_by (is_named names) k) }
+    ensures order { (names : List Sym) (k : Session)
+        → HasRisingTags k.course.wm → AreNamedApart k.rules
+        → ranking_in (left_by (is_named names) k) ≡ filter_map (left_inst (is_named names) k.rules) (ranking_in k) }
+    ensures numbered { (goes : Rule → Bool) (rules : List Rule) (n : ℕ) (r : Rule)
+        → slice_get rules n ≡ Some r → is_some (left_number goes rules n) ≡ not (goes r) }
+    ensures numbers { (goes : Rule → Bool) (k : Session) (n m : ℕ)
+        → left_number goes k.rules n ≡ Some m
+        → (slice_get (left_by goes k).rules m ≡ slice_get k.rules n) × (slice_get (left_by goes k).breaks m ≡ slice_get k.breaks n) }
+    ensures apart { (s : Setting) (limit : ℕ) (before after : List Command) (names : Spellings) (coming : Coming)
+        → AreValid s (before ++ after) → IfOk (session_of s limit before names coming).outcome (λ k. AreNamedApart k.rules) }
 {}
 
 /// What `matches` lists of a production up to a part are the tags of all partial matches of the parts so far, and nothing
@@ -198,4 +240,17 @@ pub fn others_stand_as_before()
 pub fn partial_matches_are_listed()
     ensures { (rules : List Rule) (wm : List Element) (rule k : ℕ)
         → HasRisingTags wm → rule < length rules → AreUpTo rules wm rule k (partial_tags wm (left_side rules rule) k) }
+{}
+
+/// The values that an instantiation binds are, one by one, what the fields hold that `--why` names before them: each is
+/// of the element that the instantiation has at that place. So a line of `--why` leaves none out.
+pub fn bindings_are_told()
+    ensures bound { (rules : List Rule) (wm : List Element) (i : Inst) (values : List Value)
+        → HasRisingTags wm → Binds rules wm i values → AreTold rules wm i values }
+    ensures explained { (rules : List Rule) (wm : List Element) (rule : ℕ) (found : List BoundInst) (b : BoundInst)
+        → HasRisingTags wm → rule < length rules → explanation rules wm rule ≡ Found found → Contains found b
+        → (b.inst.rule ≡ rule) × AreTold rules wm b.inst b.values }
+    ensures lines { (names : Spellings) (classes : List Class) (rules : List Rule) (wm : List Element) (rule : ℕ) (found : List BoundInst)
+        → HasRisingTags wm → rule < length rules → explanation rules wm rule ≡ Found found
+        → rule_lines names classes rules rule (Found found) ≡ map (told_line names classes rules wm) (insts_in found) }
 {}

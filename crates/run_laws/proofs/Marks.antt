@@ -1,0 +1,155 @@
+-- Each mark of a session is of a production in force.
+use Rattle.std.proofs.Common.{◌≡◌, ℕ, zero, suc, ◌+◌, ◌-◌, ◌<◌, List, [], ◌∷◌, ◌++◌, length, fold, Bool, Option, Some, None, option_map, unwrap_or, Result, Ok, Err, IfOk, ap, inl, inr, ◌⊎◌, arith}
+use Rattle.std.proofs.lemmas.Bool.{cond_both}
+use Rattle.std.proofs.lemmas.List.Elements.{All-nil}
+use Rattle.ops_base.specs.declared.commands.Command.{Command}
+use Rattle.ops_base.specs.declared.commands.Command.TheVariants as command
+use Rattle.ops_base.specs.declared.commands.Strategy.{Strategy}
+use Rattle.ops_base.specs.declared.direct.Partial.{Partial}
+use Rattle.ops_base.specs.declared.elements.Element.{Element}
+use Rattle.ops_base.specs.declared.endings.Ending.{Ending}
+use Rattle.ops_base.specs.declared.rules.Inst.{Inst}
+use Rattle.ops_base.specs.declared.rules.Rule.{Rule}
+use Rattle.ops_base.specs.declared.values.Sym.{Sym}
+use Rattle.ops_base.specs.ConflictSet.{conflict_set, insts_from, insts_of, matches_of}
+use Rattle.ops_base.specs.Instances.{AreOf}
+use Rattle.ops_base.specs.Names.{Spellings}
+use Rattle.ops_base.specs.Refraction.{is_among, still_fired}
+use Rattle.ops_base.proofs.Filtered.{filter_member}
+use Rattle.ops_base.proofs.Members.{IsMember, all_from_members, map_member, member_cases}
+use Rattle.ops_io.specs.Coming.{Coming}
+use Rattle.ops_io.specs.Output.{column_after}
+use Rattle.ops_meaning.specs.Acting.{Setting, acted}
+use Rattle.ops_meaning.specs.Effects.{Effect, and_then, writes}
+use Rattle.ops_meaning.specs.Layout.{firing_bytes, rule_name}
+use Rattle.ops_meaning.specs.Running.{Course, LastFiring, Session, Turned, added, begun, breaks_given, command_done, commands_done, ended_in, firing, given_by, in_force, is_exit, last_of, level_given, line_of_pause, next_to_fire, one_less, rule_named, run_on, session_of, strategy_given, taken_out, taken_out_named, turn, turned_of, with_course}
+use Rattle.run_laws.proofs.Orders.{marks_left}
+use Rattle.run_laws.proofs.Parts.{ok_as, ok_on}
+
+-- ---- a conflict set is of the productions
+
+set_within : (n : ℕ) (rules : List Rule) (wm : List Element) (i : Inst) → IsMember i (insts_from n rules wm) → i.rule < n + length rules
+set_within n [] wm i m = absurd m
+set_within n (r ∷ rules) wm i m =
+    by (λ h. set_within (n + 1) rules wm i h) (member_cases i (insts_of n (matches_of wm r.conditions)) (insts_from (n + 1) rules wm) m)
+  where
+    by : (IsMember i (insts_from (n + 1) rules wm) → i.rule < (n + 1) + length rules) → IsMember i (insts_of n (matches_of wm r.conditions)) ⊎ IsMember i (insts_from (n + 1) rules wm) → i.rule < n + length (r ∷ rules)
+    by later (inl h) =
+        let one = map_member (λ (p : Partial). record { rule = n; tags = p.tags }) i (matches_of wm r.conditions) h in
+        let same : i.rule ≡ n = ap (λ (j : Inst). j.rule) one.2 in
+        omega (arith, same)
+    by later (inr h) = let within = later h in omega (arith, within)
+
+-- so marks that are kept at the end of a phase are
+marks_kept : (rules : List Rule) (wm : List Element) (fired : List Inst) → AreOf rules (still_fired (conflict_set rules wm) fired)
+marks_kept rules wm fired =
+    all_from_members (λ (i : Inst). i.rule < length rules) (still_fired (conflict_set rules wm) fired)
+    (λ i m. (let there = filter_member (λ (j : Inst). is_among fired j) i (conflict_set rules wm) m in
+    let within = set_within 0 rules wm i there.0 in
+    omega (arith, within)))
+
+-- ---- a run
+
+abbrev Marked : List Rule → Course → Type 0
+Marked rules m = AreOf rules m.fired
+
+any_ok : {E S : Type 0} (o : Result S E) → IfOk o (λ s. Unit {0})
+any_ok (Ok s) = tt
+any_ok (Err e) = tt
+
+firing_marked : (s : Setting) (column : ℕ) (i : Inst) (m : Course) → IfOk (firing s column i m).outcome (λ t. Marked s.rules t.course)
+firing_marked s column i m =
+    let behind = column_after column (firing_bytes s.watch column m.names s.rules (m.firings + 1) i) in
+    ok_as (λ a. Unit {0}) (λ (t : Turned). Marked s.rules t.course) (turned_of s.rules i m) (ended_in (m.firings + 1) i.rule (rule_name s.rules i.rule)) (acted s behind i (given_by m)).outcome
+    (any_ok (acted s behind i (given_by m)).outcome)
+    (λ a q. marks_kept s.rules (turned_of s.rules i m a).course.wm (m.fired ++ i ∷ []))
+
+turn_marked : (rules : List Rule) (column : ℕ) (line : Option (List ℕ)) (m : Course) (next : Option Inst) (go_on : Inst → Effect Ending Course) → Marked rules m
+    → ((i : Inst) → IfOk (go_on i).outcome (Marked rules)) → IfOk (turn column line m next go_on).outcome (Marked rules)
+turn_marked rules column (Some line) m next go_on p q = p
+turn_marked rules column None m None go_on p q = p
+turn_marked rules column None m (Some i) go_on p q = q i
+
+run_marked : (left : ℕ) (s : Setting) (breaks : List Bool) (column : ℕ) (last : Option LastFiring) (count : Option ℕ) (m : Course) → Marked s.rules m
+    → IfOk (run_on left s breaks column last count m).outcome (Marked s.rules)
+run_marked zero s breaks column last count m p =
+    turn_marked s.rules column (line_of_pause m.names s.rules breaks last count) m (next_to_fire s.rules m) _ p (λ i. tt)
+run_marked (suc left) s breaks column last count m p =
+    turn_marked s.rules column (line_of_pause m.names s.rules breaks last count) m (next_to_fire s.rules m) _ p
+    (λ i. let e = firing s column i m in
+    ok_on (λ (t : Turned). Marked s.rules t.course) (Marked s.rules) e.bytes e.outcome (λ t. run_on left s breaks (column_after column e.bytes) (last_of i t) (one_less count) t.course) (firing_marked s column i m)
+    (λ t q. run_marked left s breaks (column_after column e.bytes) (last_of i t) (one_less count) t.course q))
+
+-- ---- a session
+
+abbrev Good : Session → Type 0
+Good k = Marked k.rules k.course
+
+named_good : (name : Sym) (k : Session) → Good k → Good (taken_out_named name k)
+named_good name k h = by (rule_named k.rules name)
+  where
+    by : (at : Option ℕ) → Good (unwrap_or (option_map (λ n. taken_out n k) at) k)
+    by None = h
+    by (Some n) = marks_left n k.rules k.course.fired h
+
+all_good : (given : List Sym) (k : Session) → Good k → Good (fold (λ k name. taken_out_named name k) k given)
+all_good [] k h = h
+all_good (name ∷ given) k h = all_good given (taken_out_named name k) (named_good name k h)
+
+one_more : (r : Rule) (rules : List Rule) → length rules < length (rules ++ r ∷ [])
+one_more r [] = omega arith
+one_more r (s ∷ rules) = let rest = one_more r rules in omega (arith, rest)
+
+of_more : (r : Rule) (rules : List Rule) (insts : List Inst) → AreOf rules insts → AreOf (rules ++ r ∷ []) insts
+of_more r rules insts h k d within = let low = h k d within in omega (arith, low, one_more r rules)
+
+added_good : (r : Rule) (k : Session) → Good k → Good (added r k)
+added_good r k h =
+    let left = taken_out_named r.name k in of_more r left.rules left.course.fired (named_good r.name k h)
+
+strategy_good : (column : ℕ) (set : Option Strategy) (k : Session) → Good k → IfOk (strategy_given column set k).outcome Good
+strategy_good column None k h = h
+strategy_good column (Some g) k h = h
+
+level_good : (column : ℕ) (set : Option ℕ) (k : Session) → Good k → IfOk (level_given column set k).outcome Good
+level_good column None k h = h
+level_good column (Some n) k h = h
+
+breaks_good : (s : Setting) (column : ℕ) (names : List Sym) (k : Session) → Good k → IfOk (breaks_given s column names k).outcome Good
+breaks_good s column [] k h = h
+breaks_good s column (n ∷ ns) k h = h
+
+command_good : (s : Setting) (limit column : ℕ) (c : Command) (k : Session) → Good k → IfOk (command_done (in_force s k) limit column c k).outcome Good
+command_good s limit column (command.Make class puts) k h = marks_kept k.rules _ k.course.fired
+command_good s limit column (command.Remove tags) k h = marks_kept k.rules _ k.course.fired
+command_good s limit column command.RemoveAll k h = marks_kept k.rules _ k.course.fired
+command_good s limit column (command.Run count) k h =
+    let at : Setting = record (in_force s k) { watch = k.watch } in
+    ok_as (Marked k.rules) Good (with_course k) (λ e. e) (run_on (limit - k.course.firings) at k.breaks column None count k.course).outcome
+    (run_marked (limit - k.course.firings) at k.breaks column None count k.course h) (λ m q. q)
+command_good s limit column (command.Wm tags) k h = h
+command_good s limit column (command.Ppwm pattern) k h = h
+command_good s limit column command.Cs k h = h
+command_good s limit column (command.Pm names) k h = h
+command_good s limit column (command.Strategy set) k h = strategy_good column set k h
+command_good s limit column (command.Watch set) k h = level_good column set k h
+command_good s limit column (command.Pbreak names) k h = breaks_good (in_force s k) column names k h
+command_good s limit column (command.Add r) k h = added_good r k h
+command_good s limit column (command.Excise given) k h = all_good given k h
+command_good s limit column (command.Back count) k h = h
+command_good s limit column (command.Matches given) k h = h
+command_good s limit column command.Exit k h = h
+
+commands_good : (s : Setting) (limit column : ℕ) (commands : List Command) (k : Session) → Good k → IfOk (commands_done s limit column commands k).outcome Good
+commands_good s limit column [] k h = h
+commands_good s limit column (c ∷ rest) k h =
+    let e = command_done (in_force s k) limit column c k in
+    let go_on : ℕ → Session → Effect Ending Session = λ next k. commands_done s limit next rest k in
+    cond_both (is_exit c) (writes [] k) (and_then column e go_on) (λ f. IfOk f.outcome Good) (λ _. h)
+    (λ _. ok_on Good Good e.bytes e.outcome (go_on (column_after column e.bytes)) (command_good s limit column c k h)
+    (λ k q. commands_good s limit (column_after column e.bytes) rest k q))
+
+pub session_marked : (s : Setting) (limit : ℕ) (commands : List Command) (names : Spellings) (coming : Coming)
+    → IfOk (session_of s limit commands names coming).outcome (λ k. AreOf k.rules k.course.fired)
+session_marked s limit commands names coming =
+    commands_good s limit 0 commands (begun s.rules names coming) (All-nil (λ (i : Inst). i.rule < length s.rules))
