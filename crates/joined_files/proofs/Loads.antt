@@ -1,8 +1,8 @@
 -- What the loads of files come to.
-use Rattle.std.proofs.Common.{◌≡◌, ℕ, zero, suc, ◌+◌, ◌-◌, ◌<◌, ◌≤◌, List, [], ◌∷◌, ◌++◌, length, take, drop, get_or, cond, Bool, true, false, Option, Some, None, Result, Ok, Err, String, string_bytes, refl, sym, ap, ◌∙◌, subst, append_assoc, arith}
+use Rattle.std.proofs.Common.{◌≡◌, ℕ, zero, suc, ◌+◌, ◌-◌, ◌<◌, ◌≤◌, List, [], ◌∷◌, ◌++◌, length, take, drop, get_or, cond, Bool, true, false, Option, Some, None, Result, Ok, Err, String, string_bytes, inl, inr, refl, sym, ap, ◌∙◌, subst, append_assoc, arith}
 use Rattle.std.specs.Prelude.{OnOk}
 use Rattle.std.specs.Result.{is_err}
-use Rattle.std.proofs.lemmas.Bool.{le-leb, lt-leb, lt-ltb, le-ltb}
+use Rattle.std.proofs.lemmas.Bool.{false≢true, le-leb, lt-leb, lt-ltb, le-ltb}
 use Rattle.std.proofs.lemmas.Grind.{common_steps}
 use Rattle.std.proofs.lemmas.List.{append-nil, drop_more, drop_all, take_all, take_more, take-append-drop, length-append, length-take-le, set_at, get_or-map}
 use Rattle.ops_base.specs.Valid.{longest_list}
@@ -12,7 +12,7 @@ use Rattle.ops_io.specs.declared.outside.LoadError.{LoadError}
 use Rattle.joined_files.specs.declared.parts.Part.{Part}
 use Rattle.joined_files.specs.Files.{Gathered, Joined, Unread, Overlong, ends_in_line, text_of, joined, gathered, gathered_all, readable, with_part}
 use Rattle.joined_files.specs.Contents.{OfContents, broken_load}
-use Rattle.joined_files.specs.Loads.{IsTold, Adds, CountsUnread, AsksFor, ComesTo}
+use Rattle.joined_files.specs.Loads.{IsTold, Adds, CountsUnread, AsksFor, ComesTo, AskedFor}
 use Rattle.joined_files.specs.declared.files.FilesFault.{FilesFault}
 use Rattle.joined_files.specs.declared.files.FilesFault.TheVariants as fault
 use Rattle.joined_files.proofs.Contents.{AreTold, of_contents, any_content, any_contents, contents_any, told_append, told_length}
@@ -186,3 +186,20 @@ module _ (told : List ℕ → Option (Option (List ℕ))) (names asked : List (L
     none_comes T f after before then now known same steady a counts more =
         let r : Result T FilesFault = Err f in
         come T f after before now (subst (λ (k : Option (Option (List ℕ))). Adds r k name text after) same a) (subst (λ n. CountsUnread r n now) steady counts) more
+
+    one_asked : new ≡ mid ++ name ∷ [] → AskedFor false names asked new
+    one_asked more = record {
+      loads = i + 1;
+      within = omega arith;
+      names = asked_more asked mid new names i name so_far more within is;
+      all_of_them = λ e. absurd (false≢true e);
+    }
+
+    -- the files that were asked for then
+    pub asked_so_far : (T : Type 0) (f : FilesFault) → (let r : Result T FilesFault = Err f in AsksFor r name mid new) → AskedFor false names asked new
+    asked_so_far T (fault.Unread of) more = one_asked more
+    asked_so_far T (fault.TooLong of) more = one_asked more
+    asked_so_far T fault.OutOfMemory more = elim more [
+      | inl none ↦ record { loads = i; within = omega arith; names = none ∙ so_far; all_of_them = λ e. absurd (false≢true e) }
+      | inr one ↦ one_asked one
+    ]

@@ -1,4 +1,5 @@
 pub mod Files
 pub mod Parts
+pub mod Ranges
 pub mod Contents
 pub mod Loads

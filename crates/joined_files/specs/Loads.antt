@@ -1,5 +1,5 @@
 -- What the loads of files come to.
-use Rattle.std.specs.Prelude.{◌≡◌, ℕ, ◌+◌, ◌<◌, ◌≤◌, List, [], ◌∷◌, ◌++◌, length, Bool, true, false, Option, Some, None, Result, Ok, Err, ◌⊎◌}
+use Rattle.std.specs.Prelude.{◌≡◌, ℕ, ◌+◌, ◌<◌, ◌≤◌, List, [], ◌∷◌, ◌++◌, ◌-◌, length, take, slice_index_or, Bool, true, false, Option, Some, None, Result, Ok, Err, ◌⊎◌}
 use Rattle.ops_base.specs.Valid.{longest_list}
 use Rattle.joined_files.specs.Files.{Gathered, Unread, Overlong, text_of}
 use Rattle.joined_files.specs.declared.files.FilesFault.{FilesFault}
@@ -37,3 +37,19 @@ abbrev pub ComesTo : FilesFault → Gathered → Type 0
 ComesTo (fault.Unread of) g = g ≡ Unread of.now
 ComesTo (fault.TooLong of) g = g ≡ Overlong of.now
 ComesTo fault.OutOfMemory g = Unit {0}
+
+-- the name that the last load was given
+abbrev pub last_of : List (List ℕ) → List ℕ
+last_of names = slice_index_or names (length names - 1) []
+
+-- the file that can't be read is that of the last load
+abbrev pub IsOfLast : FilesFault → List (List ℕ) → Type 0
+IsOfLast (fault.Unread of) names = of.now ≡ last_of names
+IsOfLast f names = Unit {0}
+
+-- The first of these files were asked for, in their order, each once; all of them, where that is so.
+pub record AskedFor (all : Bool) (files old new : List (List ℕ)) : Type 0 where
+  pub loads : ℕ
+  pub within : loads ≤ length files
+  pub names : new ≡ old ++ take loads files
+  pub all_of_them : all ≡ true → loads ≡ length files

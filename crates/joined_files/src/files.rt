@@ -1,10 +1,10 @@
 //! The files of a text, joined.
-ghost use Rattle.std.specs.Prelude.{◌≡◌, ◌^◌, ◌<◌, ◌≤◌, ◌-◌, ◌++◌, ℕ, List, [], length, take, drop, ◌∷◌, vec_len, IfOk, IfErr, OnOk};
+ghost use Rattle.std.specs.Prelude.{◌≡◌, ◌^◌, ◌<◌, ◌≤◌, ◌-◌, ◌++◌, ℕ, List, [], length, take, drop, ◌∷◌, vec_len, IfOk, IfErr, OnOk, is_ok};
 ghost use Rattle.ops_base.specs.Valid.{longest_list};
 ghost use Rattle.ops_jobs.specs.Words.{word_bytes};
 ghost use Rattle.joined_files.specs.Files.{ends_in_line, text_of, gathered_all, readable, Joined};
 ghost use Rattle.joined_files.specs.Contents.{OfContents, broken_load};
-ghost use Rattle.joined_files.specs.Loads.{Fits, Adds, CountsUnread, AsksFor, ComesTo};
+ghost use Rattle.joined_files.specs.Loads.{Fits, Adds, CountsUnread, AsksFor, ComesTo, IsOfLast, AskedFor};
 
 use crate::parts::Part;
 use ops_base::memory::OutOfMemory;
@@ -109,7 +109,9 @@ pub fn load_files<'n, H: Shelf>(
     ensures fault { IfErr result (λ why. OfContents (H.told shelf.old) (word_bytes names.now) (λ contents. ComesTo why
         (gathered_all (word_bytes names.now) (readable contents
         (broken_load (H.names shelf.old) (H.names shelf.new) (H.faults shelf.old) (H.faults shelf.new)))))) }
+    ensures last { IfErr result (λ why. IsOfLast why (H.names shelf.new)) }
     ensures cause { CountsUnread result (H.faults shelf.old) (H.faults shelf.new) }
+    ensures names { AskedFor (is_ok result) (word_bytes names.now) (H.names shelf.old) (H.names shelf.new) }
     ensures told { (n : List ℕ) → H.told shelf.new n ≡ H.told shelf.old n }
 {
     let mut text = Vec::new(alloc);

@@ -2,7 +2,9 @@
 #![tactic(auto)]
 
 mod files;
+mod laws;
 mod parts;
 
 pub use files::{FilesFault, JoinedText, load_files};
+pub use laws::parts_are_files;
 pub use parts::{Part, part_at};

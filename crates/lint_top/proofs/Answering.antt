@@ -1,21 +1,22 @@
 -- What a call that delivers a reply answers.
-use Rattle.std.proofs.Common.{◌≡◌, ℕ, ◌+◌, List, [], ◌∷◌, Bool, true, false, Option, Result, Ok, Err, refl, sym, subst, ◌∙◌, inl, inr}
+use Rattle.std.proofs.Common.{◌≡◌, ℕ, ◌+◌, ◌<◌, List, [], ◌∷◌, Bool, true, false, Option, Result, Ok, Err, refl, sym, ap, subst, ◌∙◌, inl, inr, arith}
 use Rattle.std.specs.Prelude.{if◌then◌else◌}
-use Rattle.std.proofs.lemmas.List.{append-nil}
-use Rattle.lint_rules.specs.declared.slips.Warning.{Warning}
+use Rattle.joined_files.specs.declared.parts.Part.{Part}
+use Rattle.ops_grammar.specs.Reads.{Read, Placed, reads}
+use Rattle.lint_top.specs.declared.remarks.Remark.{Remark}
 use Rattle.fault_search.specs.declared.first.PlacedFault.{PlacedFault}
-use Rattle.ops_io.specs.Outside.{GrewBy, GrewByPrefix}
+use Rattle.ops_io.specs.Outside.{GrewBy}
 use Rattle.ops_io.specs.declared.stop.Stop.{Stop}
 use Rattle.ops_io.specs.declared.stop.Stop.TheVariants as stop
 use Rattle.joined_files.specs.Files.{Gathered, Joined, Unread, Overlong, gathered_all, readable}
-use Rattle.joined_files.specs.Loads.{ComesTo, CountsUnread}
+use Rattle.joined_files.specs.Loads.{ComesTo, CountsUnread, IsOfLast, AskedFor, last_of}
 use Rattle.joined_files.specs.declared.files.FilesFault.{FilesFault}
 use Rattle.joined_files.specs.declared.files.FilesFault.TheVariants as fault
 use Rattle.lint_top.specs.declared.statuses.LintStatus.{LintStatus}
 use Rattle.lint_top.specs.declared.statuses.LintStatus.TheVariants as status
-use Rattle.lint_top.specs.Report.{Reply, report, status_by}
+use Rattle.lint_top.specs.Report.{Reply, report, reply_by, of_read, status_by}
 use Rattle.lint_top.specs.Whole.{are_files, answer_gathered, overlong, unread, whole, usage}
-use Rattle.lint_top.specs.Calls.{Answers, Delivers, TellsLoads, status_after}
+use Rattle.lint_top.specs.Calls.{Answers, Delivers, TellsLoads, status_after, has_text}
 
 -- ---- which statuses a reply has
 
@@ -32,10 +33,17 @@ IsRead status.OutOfMemory = ⊥
 IsRead status.Unread = ⊥
 IsRead s = Unit {0}
 
-read_status : (fs : List PlacedFault) (ws : List Warning) → IsRead (status_by fs ws)
-read_status [] [] = tt
-read_status [] (w ∷ ws) = tt
-read_status (f ∷ fs) ws = tt
+remarks_status : (rs : List Remark) → IsRead (status_by rs)
+remarks_status [] = tt
+remarks_status (r ∷ rs) = tt
+
+read_status : (names : List (List ℕ)) (text : List ℕ) (parts : List Part) (r : Result Read Placed) → IsRead (of_read names text parts r).status
+read_status names text parts (Ok p) = remarks_status _
+read_status names text parts (Err f) = tt
+
+faults_status : (names : List (List ℕ)) (text : List ℕ) (parts : List Part) (fs : List PlacedFault) → IsRead (reply_by names text parts fs).status
+faults_status names text parts [] = read_status names text parts (reads text)
+faults_status names text parts (f ∷ fs) = tt
 
 said_status : (s : LintStatus) → IsRead s → IsSaid s
 said_status status.Clean h = tt
@@ -46,8 +54,8 @@ said_status status.Unread h = tt
 said_status status.Unwritten h = h
 said_status status.OutOfMemory h = h
 
-report_read : (names : List (List ℕ)) (text : List ℕ) (parts : List Rattle.joined_files.specs.declared.parts.Part.Part) → IsRead (report names text parts).status
-report_read names text parts = read_status _ _
+report_read : (names : List (List ℕ)) (text : List ℕ) (parts : List Part) → IsRead (report names text parts).status
+report_read names text parts = faults_status names text parts _
 
 gathered_said : (names : List (List ℕ)) (g : Gathered) → IsSaid (answer_gathered names g).status
 gathered_said names (Joined text parts) = said_status (report names text parts).status (report_read names text parts)
@@ -119,7 +127,7 @@ one_failed (Err stop.Write) o old new before now loads later h d e = inr e
 one_failed (Err stop.OutOfMemory) o old new before now loads later h d e = inr e
 one_failed (Ok s) o old new before now loads later h d e = subst (λ s. TellsLoads s loads later) (sym (d.0 ∙ h)) e
 
-pub report_loads : (r : Result LintStatus Stop) (names : List (List ℕ)) (text : List ℕ) (parts : List Rattle.joined_files.specs.declared.parts.Part.Part) (old new : Option (List ℕ)) (before now loads later : ℕ)
+pub report_loads : (r : Result LintStatus Stop) (names : List (List ℕ)) (text : List ℕ) (parts : List Part) (old new : Option (List ℕ)) (before now loads later : ℕ)
     → Delivers r (report names text parts) old before new now → later ≡ loads → TellsLoads (status_after r) loads later
 report_loads r names text parts old new before now loads later d e =
     none_failed r (report names text parts) old new before now loads later (report_read names text parts) d e
@@ -133,3 +141,39 @@ why_loads T fault.OutOfMemory r old new before now loads later e d = none_failed
 
 pub usage_loads : (s : LintStatus) (r : Result LintStatus Stop) (old new : Option (List ℕ)) (before now loads : ℕ) → s ≡ status_after r → Delivers r usage old before new now → TellsLoads s loads loads
 usage_loads s r old new before now loads e d = subst (λ s. TellsLoads s loads loads) (sym e) (none_failed r usage old new before now loads loads tt d refl)
+
+-- ---- the files that were asked for
+
+-- the file that can't be read is that of the last load
+pub why_last : (T : Type 0) (why : FilesFault) (r : Result LintStatus Stop) (asked : List (List ℕ)) (old new : Option (List ℕ)) (before now loads later : ℕ)
+    → CountsUnread {T = T} (Err why) loads later → IsOfLast why asked → ((names : List (List ℕ)) (found : Gathered) → ComesTo why found → Delivers r (answer_gathered names found) old before new now)
+    → loads < later → Delivers r (unread (last_of asked)) old before new now
+why_last T (fault.Unread of) r asked old new before now loads later e is d rose =
+    subst (λ (n : List ℕ). Delivers r (unread n) old before new now) is (d [] (Unread of.now) refl)
+why_last T (fault.TooLong of) r asked old new before now loads later e is d rose = absurd (omega (arith, e, rose))
+why_last T fault.OutOfMemory r asked old new before now loads later e is d rose = absurd (omega (arith, e, rose))
+
+pub last_answers : (s : LintStatus) (r : Result LintStatus Stop) (name : List ℕ) (old new : Option (List ℕ)) (before now : ℕ)
+    → s ≡ status_after r → Delivers r (unread name) old before new now → Answers s (unread name) old before new now
+last_answers s r name old new before now e d = answers_by s r (unread name) old new before now tt e d
+
+no_text : (r : Result LintStatus Stop) (o : Reply) (old new : Option (List ℕ)) (before now : ℕ) → has_text o.status ≡ false → Delivers r o old before new now → has_text (status_after r) ≡ false
+no_text (Ok s) o old new before now h d = ap has_text d.0 ∙ h
+no_text (Err stop.Write) o old new before now h d = refl
+no_text (Err stop.OutOfMemory) o old new before now h d = refl
+
+why_no_text : (why : FilesFault) (r : Result LintStatus Stop) (old new : Option (List ℕ)) (before now : ℕ)
+    → ((names : List (List ℕ)) (found : Gathered) → ComesTo why found → Delivers r (answer_gathered names found) old before new now) → has_text (status_after r) ≡ false
+why_no_text (fault.Unread of) r old new before now d = no_text r (unread of.now) old new before now refl (d [] (Unread of.now) refl)
+why_no_text (fault.TooLong of) r old new before now d = no_text r (overlong of.now) old new before now refl (d [] (Overlong of.now) refl)
+why_no_text fault.OutOfMemory r old new before now d = no_text r (unread []) old new before now refl (d [] (Unread []) tt)
+
+-- all were asked for
+pub all_asked : (b : Bool) (files old new : List (List ℕ)) → AskedFor true files old new → AskedFor b files old new
+all_asked b files old new a = record { loads = a.loads; within = a.within; names = a.names; all_of_them = λ e. a.all_of_them refl }
+
+-- some were
+pub why_asked : (why : FilesFault) (r : Result LintStatus Stop) (old new : Option (List ℕ)) (before now : ℕ) (files asked after : List (List ℕ))
+    → ((names : List (List ℕ)) (found : Gathered) → ComesTo why found → Delivers r (answer_gathered names found) old before new now)
+    → AskedFor false files asked after → AskedFor (has_text (status_after r)) files asked after
+why_asked why r old new before now files asked after d a = subst (λ b. AskedFor b files asked after) (sym (why_no_text why r old new before now d)) a

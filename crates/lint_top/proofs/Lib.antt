@@ -2,3 +2,4 @@ pub mod Deliveries
 pub mod Answering
 pub mod Translating
 pub mod Words
+pub mod Reading

@@ -1,12 +1,14 @@
 -- What a call of the program leaves.
-use Rattle.std.specs.Prelude.{◌≡◌, ℕ, ◌+◌, List, Option, Result, Ok, Err, ◌⊎◌}
+use Rattle.std.specs.Prelude.{◌≡◌, ℕ, ◌+◌, List, Bool, true, false, Option, Result, Ok, Err, ◌⊎◌}
 use Rattle.ops_io.specs.Outside.{GrewBy, GrewByPrefix}
 use Rattle.ops_io.specs.Ports.{Cause}
 use Rattle.ops_io.specs.declared.stop.Stop.{Stop}
 use Rattle.ops_io.specs.declared.stop.Stop.TheVariants as stop
 use Rattle.lint_top.specs.declared.statuses.LintStatus.{LintStatus}
 use Rattle.lint_top.specs.declared.statuses.LintStatus.TheVariants as status
+use Rattle.joined_files.specs.Loads.{AskedFor}
 use Rattle.lint_top.specs.Report.{Reply}
+use Rattle.lint_top.specs.Whole.{are_files}
 
 -- All bytes of the reply went out and its status is answered; or the call gave up, for the reason that the count of
 -- failed writes gives, and a prefix went out.
@@ -34,3 +36,18 @@ TellsLoads status.Unread before now = now ≡ before + 1
 TellsLoads status.Unwritten before now = (now ≡ before) ⊎ (now ≡ before + 1)
 TellsLoads status.OutOfMemory before now = (now ≡ before) ⊎ (now ≡ before + 1)
 TellsLoads s before now = now ≡ before
+
+-- All files were read. (A text that is too long is that of files of which the last ones may not be asked for.)
+abbrev pub has_text : LintStatus → Bool
+has_text status.Clean = true
+has_text status.Warned = true
+has_text _ = false
+
+abbrev pub AskedForBy : Bool → LintStatus → List (List ℕ) → List (List ℕ) → List (List ℕ) → Type 0
+AskedForBy true s words old new = AskedFor (has_text s) words old new
+AskedForBy false s words old new = new ≡ old
+
+-- The files that the words name were asked for, in their order, each once, up to one that can't be had; all of them,
+-- where there is no error. None was where the words name no files.
+abbrev pub AskedForWords : LintStatus → List (List ℕ) → List (List ℕ) → List (List ℕ) → Type 0
+AskedForWords s words old new = AskedForBy (are_files words) s words old new

@@ -1,4 +1,5 @@
 pub mod Parts
+pub mod Remarks
 pub mod Report
 pub mod Whole
 pub mod Calls

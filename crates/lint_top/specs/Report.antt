@@ -1,5 +1,11 @@
 -- What is reported of files.
-use Rattle.std.specs.Prelude.{ℕ, List, [], ◌∷◌, ◌++◌, codes, decimal, take, slice_range, flat_map}
+use Rattle.std.specs.Prelude.{ℕ, List, [], ◌∷◌, ◌++◌, length, min, codes, decimal, take, slice_range, slice_index_or, flat_map, nat_le, ◌&&◌, if◌then◌else◌, Result, Ok, Err}
+use Rattle.std.specs.Fmt.{signed_decimal}
+use Rattle.ops_base.specs.declared.values.Value.{Value}
+use Rattle.ops_base.specs.declared.values.Value.TheVariants as value
+use Rattle.ops_base.specs.declared.elements.Class.{Class}
+use Rattle.ops_base.specs.Names.{Spellings, spelling_of}
+use Rattle.ops_base.specs.Valid.{class_of}
 use Rattle.ops_base.specs.FaultTexts.{fault_text}
 use Rattle.ops_base.specs.declared.endings.Fault.{Fault}
 use Rattle.fault_search.specs.declared.first.PlacedFault.{PlacedFault}
@@ -10,9 +16,16 @@ use Rattle.lint_rules.specs.Slips.{slips_of}
 use Rattle.joined_files.specs.declared.parts.Part.{Part}
 use Rattle.lint_top.specs.declared.statuses.LintStatus.{LintStatus}
 use Rattle.lint_top.specs.declared.statuses.LintStatus.TheVariants as status
-use Rattle.lint_top.specs.declared.report.TheConstants.{MOST_ERRORS, MOST_WARNINGS}
+use Rattle.lint_top.specs.declared.report.TheConstants.{MOST_ERRORS}
+use Rattle.lint_top.specs.declared.remarks.TheConstants.{MOST_WARNINGS}
+use Rattle.lint_top.specs.declared.remarks.Remark.{Remark}
+use Rattle.lint_top.specs.declared.remarks.Remark.TheVariants as remark
+use Rattle.program_slips.specs.declared.asked.What.{What}
+use Rattle.program_slips.specs.declared.asked.What.TheVariants as what
+use Rattle.ops_grammar.specs.Reads.{Read, Placed, reads}
 use Rattle.joined_files.specs.Parts.{part_at}
 use Rattle.lint_top.specs.Parts.{file_name, line_in, column_in}
+use Rattle.lint_top.specs.Remarks.{at_of, remarks}
 
 -- the bytes that are written, and the status
 pub record Reply : Type 0 where
@@ -36,25 +49,70 @@ error_text f = codes "error: " ++ fault_text f
 abbrev pub error_line : List (List ℕ) → List ℕ → List Part → PlacedFault → List ℕ
 error_line names text parts f = line_for names text parts f.at (error_text f.fault)
 
+-- the bytes of a word, none where it does not lie in the text
+abbrev pub word_at : List ℕ → ℕ → ℕ → List ℕ
+word_at text first past = if nat_le first past && nat_le past (length text) then slice_range text first past else []
+
 -- the word, and what is printed of its slip
 abbrev pub warning_text : List ℕ → Warning → List ℕ
-warning_text text w = codes "warning: " ++ slice_range text w.first w.past ++ slip_text w.slip
+warning_text text w = codes "warning: " ++ word_at text w.first w.past ++ slip_text w.slip
 
 abbrev pub warning_line : List (List ℕ) → List ℕ → List Part → Warning → List ℕ
 warning_line names text parts w = line_for names text parts w.first (warning_text text w)
 
-abbrev pub status_by : List PlacedFault → List Warning → LintStatus
-status_by [] [] = status.Clean
-status_by [] (w ∷ ws) = status.Warned
-status_by (f ∷ fs) ws = status.Faulty
+-- ---- what is printed of productions
 
-abbrev pub reply_by : List (List ℕ) → List ℕ → List Part → List PlacedFault → List Warning → Reply
-reply_by names text parts faults slips =
+abbrev pub value_text : Spellings → Value → List ℕ
+value_text held (value.Symbol s) = spelling_of held s
+value_text held (value.Whole n) = signed_decimal n
+
+abbrev pub class_text : Spellings → List Class → ℕ → List ℕ
+class_text held classes class = spelling_of held (class_of classes class).name
+
+abbrev pub attribute_text : Spellings → List Class → ℕ → ℕ → List ℕ
+attribute_text held classes class field = spelling_of held (slice_index_or (class_of classes class).attrs field (record { 0 = 0 }))
+
+abbrev pub what_text : Spellings → List Class → ℕ → What → List ℕ
+what_text held classes class what.Element = codes " asks for an element of " ++ class_text held classes class ++ codes ", and nothing makes one"
+what_text held classes class (what.Constant field v) =
+    codes " asks for " ++ value_text held v ++ codes " in ^" ++ attribute_text held classes class field
+    ++ codes " of " ++ class_text held classes class ++ codes ", and nothing puts it there"
+what_text held classes class what.Unmet = codes " lets no element through: its tests of one attribute exclude each other"
+
+abbrev pub remark_text : List ℕ → Spellings → List Class → Remark → List ℕ
+remark_text text held classes (remark.Word w) = warning_text text w
+remark_text text held classes (remark.Asked a) = codes "warning: condition " ++ decimal a.condition ++ what_text held classes a.class a.what
+remark_text text held classes (remark.Twin t) = codes "warning: " ++ spelling_of held t.name ++ codes " has the conditions of " ++ spelling_of held t.earlier
+remark_text text held classes (remark.Lone n) = codes "warning: " ++ word_at text n.first n.past ++ codes " is bound and used nowhere"
+
+-- at its place, which is at most the end of the text
+abbrev pub remark_line : List (List ℕ) → List ℕ → List Part → Spellings → List Class → Remark → List ℕ
+remark_line names text parts held classes r = line_for names text parts (min (at_of r) (length text)) (remark_text text held classes r)
+
+-- ---- the reply
+
+abbrev pub status_by : List Remark → LintStatus
+status_by [] = status.Clean
+status_by (r ∷ rs) = status.Warned
+
+abbrev pub of_remarks : List (List ℕ) → List ℕ → List Part → Spellings → List Class → List Remark → Reply
+of_remarks names text parts held classes rs =
+    record { bytes = flat_map (remark_line names text parts held classes) rs; status = status_by rs }
+
+-- a text without a fault is a program
+abbrev pub of_read : List (List ℕ) → List ℕ → List Part → Result Read Placed → Reply
+of_read names text parts (Ok p) = of_remarks names text parts p.names p.classes (remarks text p.classes p.rules p.commands)
+of_read names text parts (Err f) = record { bytes = []; status = status.Clean }
+
+abbrev pub reply_by : List (List ℕ) → List ℕ → List Part → List PlacedFault → Reply
+reply_by names text parts [] = of_read names text parts (reads text)
+reply_by names text parts (f ∷ fs) =
     record {
-      bytes = flat_map (error_line names text parts) faults ++ flat_map (warning_line names text parts) slips;
-      status = status_by faults slips;
+      bytes = flat_map (error_line names text parts) (f ∷ fs) ++ flat_map (warning_line names text parts) (take MOST_WARNINGS (slips_of text));
+      status = status.Faulty;
     }
 
--- a line for each fault of the text, and then a line for each slip
+-- a line for each fault of the text, and then for each slip of a word; where there is no fault, a line for each warning
+-- of a word or a production
 abbrev pub report : List (List ℕ) → List ℕ → List Part → Reply
-report names text parts = reply_by names text parts (faults_of MOST_ERRORS text) (take MOST_WARNINGS (slips_of text))
+report names text parts = reply_by names text parts (faults_of MOST_ERRORS text)

@@ -6,7 +6,9 @@ pub mod laws;
 mod lines;
 mod lint;
 mod places;
+pub mod remarks;
 mod report;
+mod saids;
 mod saying;
 mod statuses;
 #[cfg(test)]
@@ -14,5 +16,6 @@ mod tests;
 
 pub use laws::places_are_translated;
 pub use lint::lint_run;
-pub use report::{MOST_ERRORS, MOST_WARNINGS};
+pub use remarks::MOST_WARNINGS;
+pub use report::MOST_ERRORS;
 pub use statuses::{LintStatus, code};

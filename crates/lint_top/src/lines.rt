@@ -1,9 +1,8 @@
 //! The lines that are reported.
 ghost use Rattle.std.specs.Prelude.{◌≡◌, ◌++◌, ◌≤◌, length, IfOk, OnOk};
 ghost use Rattle.ops_jobs.specs.Words.{word_bytes};
-ghost use Rattle.lint_rules.specs.Walks.{LiesWithin};
 ghost use Rattle.lint_top.specs.Parts.{file_name};
-ghost use Rattle.lint_top.specs.Report.{line_at, line_for, error_text, error_line, warning_text, warning_line};
+ghost use Rattle.lint_top.specs.Report.{line_at, line_for, error_text, error_line, word_at, warning_text, warning_line};
 
 use crate::places::place_in;
 use fault_search::PlacedFault;
@@ -55,7 +54,7 @@ pub(crate) fn add_line(
     Ok(())
 }
 
-fn add_line_for(
+pub(crate) fn add_line_for(
     lines: &mut Vec<u8>,
     files: Files<'_>,
     at: usize,
@@ -79,12 +78,26 @@ pub(crate) fn error_text(alloc: Global, fault: Fault) -> Result<Vec<u8>, OutOfMe
     Ok(text)
 }
 
-fn warning_text(alloc: Global, text: &[u8], warning: Warning) -> Result<Vec<u8>, OutOfMemory>
-    requires { LiesWithin text.now warning }
+/// The bytes of a word, none where it does not lie in the text.
+pub(crate) fn word_at(text: &[u8], first: usize, past: usize) -> &[u8]
+    ensures { result.now ≡ word_at text.now first past }
+{
+    if first <= past && past <= text.len() {
+        &text[first..past]
+    } else {
+        &[]
+    }
+}
+
+pub(crate) fn warning_text(
+    alloc: Global,
+    text: &[u8],
+    warning: Warning,
+) -> Result<Vec<u8>, OutOfMemory>
     ensures { IfOk result (λ v. v.items ≡ warning_text text.now warning) }
 {
     let mut said = Vec::from_slice(alloc, b"warning: ")?;
-    said.extend_from_slice(&text[warning.first..warning.past])?;
+    said.extend_from_slice(word_at(text, warning.first, warning.past))?;
     said.extend_from_slice(slip_text(warning.slip).as_bytes())?;
     Ok(said)
 }
@@ -110,7 +123,7 @@ pub(crate) fn add_warning(
     files: Files<'_>,
     warning: Warning,
 ) -> Result<(), OutOfMemory>
-    requires { LiesWithin files.text.now warning }
+    requires { warning.first ≤ length files.text.now }
     ensures { OnOk result (lines.new.items ≡ lines.old.items ++ warning_line (word_bytes files.entry.names.now) files.entry.text.now files.entry.parts.now warning) }
 {
     let what = warning_text(alloc, files.text, warning)?;

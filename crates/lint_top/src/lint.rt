@@ -4,8 +4,9 @@ ghost use Rattle.std.specs.List.{list_all};
 ghost use Rattle.ops_jobs.specs.Words.{word_bytes};
 ghost use Rattle.joined_files.specs.Contents.{OfContents, broken_load};
 ghost use Rattle.joined_files.specs.Files.{gathered_all, readable};
-ghost use Rattle.lint_top.specs.Whole.{is_file, are_files, answer_gathered, whole};
-ghost use Rattle.lint_top.specs.Calls.{Answers, Delivers, TellsLoads, status_after};
+ghost use Rattle.joined_files.specs.Loads.{AskedFor, last_of};
+ghost use Rattle.lint_top.specs.Whole.{is_file, are_files, answer_gathered, unread, whole};
+ghost use Rattle.lint_top.specs.Calls.{Answers, Delivers, TellsLoads, status_after, has_text, AskedForWords};
 
 use crate::saying::{say_report, say_usage, say_why, status_after};
 use crate::statuses::LintStatus;
@@ -50,6 +51,9 @@ fn answer_files<H: Shelf, K: Sink>(
         (broken_load (H.names shelf.old) (H.names shelf.new) (H.faults shelf.old) (H.faults shelf.new)))))
         (K.taken sink.old) (K.faults sink.old) (K.taken sink.new) (K.faults sink.new)) }
     ensures loads { TellsLoads (status_after result) (H.faults shelf.old) (H.faults shelf.new) }
+    ensures last { H.faults shelf.old < H.faults shelf.new → Delivers result (unread (last_of (H.names shelf.new)))
+        (K.taken sink.old) (K.faults sink.old) (K.taken sink.new) (K.faults sink.new) }
+    ensures names { AskedFor (has_text (status_after result)) (word_bytes names.now) (H.names shelf.old) (H.names shelf.new) }
     ensures told { (n : List ℕ) → H.told shelf.new n ≡ H.told shelf.old n }
 {
     match load_files(alloc, names, shelf) {
@@ -74,6 +78,9 @@ pub fn lint_run<H: Shelf, K: Sink>(
         (broken_load (H.names shelf.old) (H.names shelf.new) (H.faults shelf.old) (H.faults shelf.new)))
         (K.taken sink.old) (K.faults sink.old) (K.taken sink.new) (K.faults sink.new)) }
     ensures loads { TellsLoads result (H.faults shelf.old) (H.faults shelf.new) }
+    ensures last { H.faults shelf.old < H.faults shelf.new → Answers result (unread (last_of (H.names shelf.new)))
+        (K.taken sink.old) (K.faults sink.old) (K.taken sink.new) (K.faults sink.new) }
+    ensures names { AskedForWords result (word_bytes words.now) (H.names shelf.old) (H.names shelf.new) }
     ensures told { (n : List ℕ) → H.told shelf.new n ≡ H.told shelf.old n }
 {
     if are_files(words) {

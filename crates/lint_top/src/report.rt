@@ -1,21 +1,23 @@
 //! What is reported of files.
-ghost use Rattle.std.specs.Prelude.{◌≡◌, ◌++◌, ◌≤◌, length, All, flat_map, IfOk, OnOk};
+ghost use Rattle.std.specs.Prelude.{◌≡◌, ◌++◌, ◌≤◌, length, take, All, flat_map, IfOk, OnOk};
 ghost use Rattle.ops_jobs.specs.Words.{word_bytes};
 ghost use Rattle.lint_rules.specs.Walks.{LiesWithin};
-ghost use Rattle.lint_top.specs.Report.{error_line, warning_line, status_by, report};
+ghost use Rattle.lint_rules.specs.Slips.{slips_of};
+ghost use Rattle.ops_grammar.specs.Reads.{reads};
+ghost use Rattle.lint_top.specs.Report.{error_line, warning_line, status_by, of_remarks, of_read, report};
 
 use crate::lines::{Files, add_error, add_warning};
+use crate::remarks::{MOST_WARNINGS, Remark, remarks_of};
+use crate::saids::{Terms, add_remark};
 use crate::statuses::LintStatus;
 use fault_search::{PlacedFault, all_faults};
 use lint_rules::{Warning, word_slips};
 use ops_base::memory::OutOfMemory;
+use ops_check::{ProgramFault, read_program};
 use std::alloc::Global;
 
 /// How many errors are reported at most.
 pub const MOST_ERRORS: usize = 100;
-
-/// How many warnings are reported at most.
-pub const MOST_WARNINGS: usize = 100;
 
 /// Lines, and the status after them.
 #[derive(Drop)]
@@ -54,15 +56,76 @@ fn add_warnings(
     Ok(())
 }
 
-fn status_by(faults: &[PlacedFault], slips: &[Warning]) -> LintStatus
-    ensures { result ≡ status_by faults.now slips.now }
+/// Gives a line for each fault, and then for each slip of a word.
+fn report_faults(
+    alloc: Global,
+    files: Files<'_>,
+    faults: &[PlacedFault],
+) -> Result<Lines, OutOfMemory>
+    requires { All (λ f. f.at ≤ length files.text.now) faults.now }
+    ensures bytes { IfOk result (λ r. r.bytes.items
+        ≡ flat_map (error_line (word_bytes files.entry.names.now) files.entry.text.now files.entry.parts.now) faults.now
+        ++ flat_map (warning_line (word_bytes files.entry.names.now) files.entry.text.now files.entry.parts.now) (take MOST_WARNINGS (slips_of files.entry.text.now))) }
+    ensures status { IfOk result (λ r. r.status ≡ LintStatus.Faulty) }
 {
-    if !faults.is_empty() {
-        LintStatus::Faulty
-    } else if !slips.is_empty() {
-        LintStatus::Warned
-    } else {
+    let slips = word_slips(alloc, files.text, MOST_WARNINGS)?;
+    let mut bytes = Vec::new(alloc);
+    add_errors(alloc, &mut bytes, files, faults)?;
+    add_warnings(alloc, &mut bytes, files, &slips)?;
+    Ok(Lines {
+        bytes,
+        status: LintStatus::Faulty,
+    })
+}
+
+fn status_by(remarks: &[Remark]) -> LintStatus
+    ensures { result ≡ status_by remarks.now }
+{
+    if remarks.is_empty() {
         LintStatus::Clean
+    } else {
+        LintStatus::Warned
+    }
+}
+
+/// Gives a line for each of these warnings.
+fn report_remarks(
+    alloc: Global,
+    files: Files<'_>,
+    terms: Terms<'_>,
+    remarks: &[Remark],
+) -> Result<Lines, OutOfMemory>
+    ensures bytes { IfOk result (λ r. r.bytes.items ≡ (of_remarks (word_bytes files.entry.names.now) files.entry.text.now files.entry.parts.now terms.entry.names.now terms.entry.classes.now remarks.now).bytes) }
+    ensures status { IfOk result (λ r. r.status ≡ status_by remarks.now) }
+{
+    let mut bytes = Vec::new(alloc);
+    for remark in remarks {
+        add_remark(alloc, &mut bytes, files, terms, *remark)?;
+    }
+    let status = status_by(remarks);
+    Ok(Lines { bytes, status })
+}
+
+/// Gives a line for each warning of a text that is a program.
+fn report_program(alloc: Global, files: Files<'_>) -> Result<Lines, OutOfMemory>
+    ensures bytes { IfOk result (λ r. r.bytes.items ≡ (of_read (word_bytes files.entry.names.now) files.entry.text.now files.entry.parts.now (reads files.entry.text.now)).bytes) }
+    ensures status { IfOk result (λ r. r.status ≡ (of_read (word_bytes files.entry.names.now) files.entry.text.now files.entry.parts.now (reads files.entry.text.now)).status) }
+{
+    let text = Vec::from_slice(alloc, files.text)?;
+    match read_program(alloc, text) {
+        Ok((program, names)) => {
+            let remarks = remarks_of(alloc, &program)?;
+            let terms = Terms {
+                names: &names,
+                classes: program.classes.as_slice(),
+            };
+            report_remarks(alloc, files, terms, &remarks)
+        }
+        Err(ProgramFault::OutOfMemory) => Err(OutOfMemory),
+        Err(ProgramFault::At { .. }) => Ok(Lines {
+            bytes: Vec::new(alloc),
+            status: LintStatus::Clean,
+        }),
     }
 }
 
@@ -72,10 +135,9 @@ pub(crate) fn report(alloc: Global, files: Files<'_>) -> Result<Lines, OutOfMemo
     ensures status { IfOk result (λ r. r.status ≡ (report (word_bytes files.entry.names.now) files.entry.text.now files.entry.parts.now).status) }
 {
     let faults = all_faults(alloc, files.text, MOST_ERRORS)?;
-    let slips = word_slips(alloc, files.text, MOST_WARNINGS)?;
-    let mut bytes = Vec::new(alloc);
-    add_errors(alloc, &mut bytes, files, &faults)?;
-    add_warnings(alloc, &mut bytes, files, &slips)?;
-    let status = status_by(&faults, &slips);
-    Ok(Lines { bytes, status })
+    if faults.is_empty() {
+        report_program(alloc, files)
+    } else {
+        report_faults(alloc, files, &faults)
+    }
 }

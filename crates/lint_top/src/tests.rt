@@ -1,4 +1,4 @@
-//! The lines of a page with fifteen slips, and that its mended page has none.
+//! The lines of a page with fifteen slips, and that its mended page has none; and of a program with one slip of each kind.
 
 use crate::lint::lint_run;
 use crate::statuses::LintStatus;
@@ -43,21 +43,40 @@ page:6:26: warning: \"done is a symbol with its quote: words that belong togethe
 page:7:33: warning: crlf is printed as a word: (crlf) ends the line
 ";
 
-const MENDED: &[u8] = b"(p one (part ^name <x>) --> (remove 1))
-(p two (part ^color <> red) --> (remove 1))
+const MENDED: &[u8] = b"(p one (part ^name <x>) --> (write <x>))
+(p two (part ^color <> red ^size <s>) --> (modify 1 ^size (compute <s> + 1)))
 (p three (part ^size > 0) --> (remove 1))
 (p four (part ^name <n> ^size <= <n>) --> (remove 1))
-(p five (part ^name <n> ^color << red blue >>) --> (remove 1))
-(p six (part) --> (write |done|))
-(p seven (part) --> (write done (crlf)))
+(p five (part ^name <n> ^color << red blue >>) --> (write <n>))
+(p six (part ^size 1) --> (write |done|))
+(p seven (part ^size 2) --> (write done (crlf)))
 (p eight (part ^color red) --> (remove 1))
 (p nine (part) --> (remove 1))
-(p ten (part ^name <x>) --> (write <x>))
-(p eleven (part) --> (remove 1))
+(p ten (part ^name <x> ^size 3) --> (write <x>))
+(p eleven (part ^size 4) --> (remove 1))
 (p twelve (box) - (part) --> (remove 1))
 (p thirteen (box) --> (remove 1))
-(make part ^size 15)
+(make part ^color red ^size 15)
+(make part ^color blue)
+(make box)
 (run 3)
+";
+
+const PROGRAM: &[u8] = b"(p one (part ^name <x> ^color red) --> (remove 1))
+(p two (part ^color green) --> (remove 1))
+(p three (part ^size { > 5 < 3 }) --> (remove 1))
+(p four (box) --> (remove 1))
+(p five (box) --> (write ?x))
+(make part ^color red)
+(run)
+";
+
+const WARNINGS: &[u8] = b"page:1:20: warning: <x> is bound and used nowhere
+page:2:1: warning: condition 1 asks for green in ^color of part, and nothing puts it there
+page:3:1: warning: condition 1 lets no element through: its tests of one attribute exclude each other
+page:4:1: warning: condition 1 asks for an element of box, and nothing makes one
+page:5:1: warning: five has the conditions of four
+page:5:26: warning: ?x is a symbol: a variable is written <name>
 ";
 
 fn add_file(
@@ -99,5 +118,13 @@ fn the_mended_page_is_clean(rt: HostRuntime) -> Result<(), Fail> {
     let (sink, status) = said_of(rt.alloc(), MENDED)?;
     assert!(rt; sink.written().is_empty());
     assert!(rt; status == LintStatus::Clean);
+    Ok(())
+}
+
+#[test]
+fn warnings_are_in_order(rt: HostRuntime) -> Result<(), Fail> {
+    let (sink, status) = said_of(rt.alloc(), PROGRAM)?;
+    assert!(rt; sink.written() == WARNINGS);
+    assert!(rt; status == LintStatus::Warned);
     Ok(())
 }

@@ -1,0 +1,57 @@
+-- What the conditions of a program ask for, one after another in the order of the text.
+use Rattle.std.specs.Prelude.{ℕ, ◌+◌, List, [], ◌∷◌, ◌++◌, map, flat_map, nat_lt, if◌then◌else◌}
+use Rattle.ops_base.specs.declared.values.Value.{Value}
+use Rattle.ops_base.specs.declared.values.Pred.{Pred}
+use Rattle.ops_base.specs.declared.values.Pred.TheVariants.{Eq}
+use Rattle.ops_base.specs.declared.elements.Class.{Class}
+use Rattle.ops_base.specs.declared.conditions.Operand.{Operand}
+use Rattle.ops_base.specs.declared.conditions.Operand.TheVariants.{Constant, OneOf}
+use Rattle.ops_base.specs.declared.conditions.Test.{Test}
+use Rattle.ops_base.specs.declared.conditions.Condition.{Condition}
+use Rattle.ops_base.specs.declared.conditions.Part.{Part}
+use Rattle.ops_base.specs.declared.rules.Rule.{Rule}
+use Rattle.ops_base.specs.declared.commands.Command.{Command}
+use Rattle.ops_base.specs.declared.commands.Command.TheVariants as command
+use Rattle.ops_base.specs.WorkingMemory.{scalar_count}
+use Rattle.ops_base.specs.Valid.{class_of, elements_in}
+use Rattle.program_slips.specs.declared.asked.What.{What}
+use Rattle.program_slips.specs.declared.asked.What.TheVariants as what
+use Rattle.program_slips.specs.declared.asked.Ask.{Ask}
+use Rattle.program_slips.specs.Unmet.{is_unmet}
+
+-- the constants of which the attribute is to hold one
+abbrev pub constants_by : Pred → Operand → List Value
+constants_by Eq (Constant v) = v ∷ []
+constants_by p (OneOf vs) = vs
+constants_by p o = []
+
+-- this is asked for by a condition of that number, in the production that stands at a place of the text
+abbrev pub ask_at : ℕ → ℕ → ℕ → What → Ask
+ask_at at number class w = record { at = at; condition = number; class = class; what = w }
+
+-- a place of a vector attribute asks for nothing here
+abbrev pub asks_of_test : ℕ → ℕ → ℕ → ℕ → Test → List Ask
+asks_of_test at number class scalars t =
+    if nat_lt t.field scalars then map (λ v. ask_at at number class (what.Constant t.field v)) (constants_by t.pred t.operand) else []
+
+-- an element of its class; what can't be had; and its constants
+abbrev pub asks_of_condition : List Class → ℕ → ℕ → Condition → List Ask
+asks_of_condition classes at number c =
+    ask_at at number c.class what.Element ∷ (if is_unmet c then ask_at at number c.class what.Unmet ∷ [] else [])
+    ++ flat_map (asks_of_test at number c.class (scalar_count (class_of classes c.class))) c.tests
+
+-- The parts of a left side are counted from 1; the members of a group have its number.
+abbrev pub asks_of_parts : List Class → ℕ → ℕ → List Part → List Ask
+asks_of_parts classes at before [] = []
+asks_of_parts classes at before (p ∷ ps) =
+    flat_map (asks_of_condition classes at (before + 1)) (elements_in p) ++ asks_of_parts classes at (before + 1) ps
+
+abbrev pub asks_of_rule : List Class → Rule → List Ask
+asks_of_rule classes r = asks_of_parts classes r.first 0 r.conditions
+
+abbrev pub asks_of_command : List Class → Command → List Ask
+asks_of_command classes (command.Add r) = asks_of_rule classes r
+asks_of_command classes _ = []
+
+abbrev pub asks_of : List Class → List Rule → List Command → List Ask
+asks_of classes rules commands = flat_map (asks_of_rule classes) rules ++ flat_map (asks_of_command classes) commands

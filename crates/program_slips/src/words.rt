@@ -1,0 +1,134 @@
+//! The variables of a production, as they stand in its text.
+ghost use Rattle.std.specs.Prelude.{◌≡◌, ◌≤◌, ◌++◌, length, All, bytes_eq, IfOk, OnOk};
+ghost use Rattle.ops_grammar.specs.Words.{lexed};
+ghost use Rattle.program_slips.specs.Lone.{after_operator, after_word, named_by, named_among, at_start};
+ghost use Rattle.program_slips.specs.Walks.{StandsBefore, LiesWithin};
+
+use ops_base::memory::OutOfMemory;
+use ops_tokens::{Scanner, Token, TokenKind, spelling_of};
+use std::alloc::Global;
+
+/// Where a word stands.
+#[derive(Clone, Copy, Debug, PartialEq, Eq)]
+pub struct Standing {
+    /// Whether it stands before the arrow.
+    pub left: bool,
+    /// Whether it stands between `<<` and `>>`.
+    pub choice: bool,
+    /// Whether it stands right after `//`.
+    pub literal: bool,
+}
+
+/// A variable, on the bytes of a text from `first` up to `past`, and whether it stands before the arrow.
+#[derive(Clone, Copy, Debug, PartialEq, Eq)]
+pub struct Named {
+    pub first: usize,
+    pub past: usize,
+    pub left: bool,
+}
+
+fn is(word: &[u8], other: &[u8]) -> bool
+    ensures { result ≡ bytes_eq word.now other.now }
+{
+    word == other
+}
+
+fn after_operator(standing: Standing, spelling: &[u8]) -> Standing
+    ensures { result ≡ after_operator standing spelling.now }
+{
+    let left = standing.left;
+    if standing.choice {
+        return Standing {
+            left,
+            choice: !is(spelling, b">>"),
+            literal: false,
+        };
+    }
+    if standing.literal {
+        return Standing {
+            left,
+            choice: false,
+            literal: false,
+        };
+    }
+    if is(spelling, b"//") {
+        return Standing {
+            left,
+            choice: false,
+            literal: true,
+        };
+    }
+    Standing {
+        left: left && !is(spelling, b"-->"),
+        choice: is(spelling, b"<<"),
+        literal: false,
+    }
+}
+
+fn after_word(kind: TokenKind, standing: Standing, spelling: &[u8]) -> Standing
+    ensures { result ≡ after_word kind standing spelling.now }
+{
+    match kind {
+        TokenKind::Operator => after_operator(standing, spelling),
+        _ => Standing {
+            literal: false,
+            ..standing
+        },
+    }
+}
+
+/// Adds the token, if it is a variable.
+fn note(named: &mut Vec<Named>, standing: Standing, token: Token) -> Result<(), OutOfMemory>
+    ensures { OnOk result (named.new.items ≡ named.old.items ++ named_by token.kind standing token.first token.past) }
+{
+    match token.kind {
+        TokenKind::Variable => {
+            if !standing.choice && !standing.literal {
+                named.push(Named {
+                    first: token.first,
+                    past: token.past,
+                    left: standing.left,
+                })?;
+            }
+            Ok(())
+        }
+        _ => Ok(()),
+    }
+}
+
+/// The token that stands next, where one does.
+fn token_from(scanner: &Scanner, text: &[u8], from: usize) -> Option<Token>
+    requires { from ≤ length text.now }
+    ensures { StandsBefore text.now from result }
+{
+    match scanner.next_token(text, from) {
+        Ok(found) => found,
+        Err(_) => None,
+    }
+}
+
+/// The variables of the text of a production, in order, also those that stand twice.
+pub(crate) fn variables_in(
+    alloc: Global,
+    scanner: &Scanner,
+    text: &[u8],
+) -> Result<Vec<Named>, OutOfMemory>
+    ensures named { IfOk result (λ v. v.items ≡ named_among text.now at_start (lexed text.now).tokens) }
+    ensures within { IfOk result (λ v. All (LiesWithin text.now) v.items) }
+{
+    let mut named = Vec::new(alloc);
+    let mut standing = Standing {
+        left: true,
+        choice: false,
+        literal: false,
+    };
+    let mut from = 0;
+    'words: loop {
+        let Some(token) = token_from(scanner, text, from) else {
+            return Ok(named);
+        };
+        note(&mut named, standing, token)?;
+        standing = after_word(token.kind, standing, spelling_of(text, &token));
+        from = token.past;
+    }
+}
