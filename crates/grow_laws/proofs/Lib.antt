@@ -1,0 +1,4 @@
+pub mod Balance
+pub mod Rest
+pub mod Runs
+pub mod DueTasks

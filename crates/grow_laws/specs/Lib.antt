@@ -1,0 +1,3 @@
+-- Lines that hold what stood at an older network.
+pub mod Growing
+pub mod Due

@@ -1,0 +1,3 @@
+-- Networks that stand behind others.
+pub mod Behind
+pub mod Last

@@ -1,0 +1,97 @@
+//! What a network lacks of productions that are added to it: a chain of nodes of their own, behind all of its nodes.
+#![tactic(auto)]
+
+ghost use Rattle.std.specs.Prelude.{◌≡◌, ◌++◌, ◌+◌, ◌<◌, ◌≤◌, ◌^◌, ◌-◌, IfOk, length};
+ghost use Rattle.net_base.specs.declared.net.Net.{Net};
+ghost use Rattle.net_base.specs.Network.{NetOf};
+ghost use Rattle.net_base.specs.Sound.{IsSound};
+ghost use Rattle.grow_net.specs.Behind.{HasRulesBelow, HaveNoneInCommon, IsGrown, IsOfAll, StandApart};
+ghost use Rattle.grow_net.specs.Last.{HasSameParts, but_last};
+
+mod alphas;
+mod copies;
+mod last;
+mod nodes;
+mod same;
+
+use crate::alphas::places_of;
+use crate::last::net_of_last;
+use crate::nodes::{Before, nodes_behind};
+use net_base::net::Net;
+use net_base::nodes::{Alpha, Node};
+use ops_base::memory::OutOfMemory;
+use ops_base::programs::Program;
+use std::alloc::Global;
+
+/// The alphas and nodes that stand behind those of a network.
+#[derive(Drop)]
+pub struct Growth {
+    pub alphas: Vec<Alpha>,
+    pub nodes: Vec<Node>,
+}
+
+/// How many nodes two networks have.
+fn count_of(own: &[Node], others: &[Node]) -> usize
+    ensures count { result ≡ length own.now + length others.now }
+    ensures fits { length own.now + length others.now < 2 ^ 64 }
+{
+    own.len() + others.len()
+}
+
+/// What a network, of so many productions, lacks of the productions of another one: the alphas that it has not, and the
+/// nodes of the other network, under the numbers that they have behind all of its own. What it has stays as it is: no
+/// node of it gets a child, and no alpha of it is there twice.
+///
+/// It copies the other network, and looks for each alpha of that one at the class of each alpha of the network, and at
+/// the tests of those of one class.
+pub fn growth_of(alloc: Global, net: &Net, rules: usize, added: &Net) -> Result<Growth, OutOfMemory>
+    requires below { HasRulesBelow net.now.nodes rules }
+    requires room { HasRulesBelow added.now.nodes (2 ^ 64 - rules) }
+    ensures network { IfOk result (λ g. IsOfAll net.now rules added.now g.alphas.items g.nodes.items) }
+    ensures sound { IfOk result (λ g. IsSound (net.now.alphas ++ g.alphas.items) (net.now.nodes ++ g.nodes.items)) }
+    ensures apart { IfOk result (λ g. StandApart net.now.nodes g.nodes.items) }
+    ensures fresh { IfOk result (λ g. HaveNoneInCommon net.now.alphas g.alphas.items) }
+    ensures count { IfOk result (λ g. length g.nodes.items ≡ length added.now.nodes) }
+{
+    let own = net.nodes();
+    let others = added.nodes();
+    let _all = count_of(own, others);
+    let mut alphas = Vec::new(alloc);
+    let places = places_of(alloc, net.alphas(), &mut alphas, added.alphas())?;
+    let before = Before {
+        nodes: own.len(),
+        rules,
+    };
+    let nodes = nodes_behind(alloc, before, places.as_slice(), others)?;
+    Ok(Growth { alphas, nodes })
+}
+
+/// How many productions stand before the last one.
+fn rules_before(program: &Program) -> usize
+    requires { 1 ≤ length program.now.rules }
+    ensures count { result ≡ length program.now.rules - 1 }
+    ensures fits { result < 2 ^ 64 }
+{
+    program.rules.len() - 1
+}
+
+/// What the network of the productions before the last one lacks of the last one. The program is as before, also where
+/// memory runs out. It costs the compilation of one production, and what `growth_of` costs.
+pub fn growth_for_last(
+    alloc: Global,
+    net: &Net,
+    program: &mut Program,
+) -> Result<Growth, OutOfMemory>
+    requires some { 1 ≤ length program.old.rules }
+    requires before { NetOf net.now (but_last program.old.rules) }
+    ensures program { HasSameParts program.old program.new }
+    ensures network { IfOk result (λ g. (grown : Net) → IsGrown net.now grown g.alphas.items g.nodes.items → NetOf grown program.old.rules) }
+    ensures sound { IfOk result (λ g. IsSound (net.now.alphas ++ g.alphas.items) (net.now.nodes ++ g.nodes.items)) }
+    ensures apart { IfOk result (λ g. StandApart net.now.nodes g.nodes.items) }
+    ensures fresh { IfOk result (λ g. HaveNoneInCommon net.now.alphas g.alphas.items) }
+{
+    let rules = rules_before(program);
+    let added = net_of_last(alloc, program)?;
+    let growth = growth_of(alloc, net, rules, &added)?;
+    Ok(growth)
+}
