@@ -24,7 +24,9 @@ use Rattle.ops_forms.specs.declared.form.FormEnd.TheVariants as end
 use Rattle.ops_forms.specs.declared.refusals.Refusal.{Refusal}
 use Rattle.ops_forms.specs.declared.refusals.Refusal.TheVariants as refused
 use Rattle.ops_check.specs.Walks.{ReadsAll}
-use Rattle.ops_check.specs.Answered.{rest_by, rest_of, stop_of, fault_at, Continues}
+use Rattle.ops_check.specs.Answered.{rest_by, rest_of, stop_of, fault_at, Continues, IsAnswer}
+use Rattle.ops_check.specs.declared.faults.TextFault.{TextFault}
+use Rattle.ops_check.specs.declared.faults.TextFault.TheVariants as answer
 use Rattle.ops_check.proofs.Balance.{NotCut, NotDone, closed_reads, open_form_goes_on}
 
 -- ---- words of tokens and more
@@ -99,6 +101,13 @@ reads_long text long = rw (lt-ltb longest_list (length text) long) refl
 pub reads_first : (text : List ℕ) → length text ≤ longest_list → reads text ≡ rest_of text only_nil 0 nothing_read
 unfolding reads
 reads_first text short = rw (le-ltb longest_list (length text) short) refl
+
+-- the fault in a text that is not too long, where nothing was read before
+pub answered : (text : List ℕ) (names : Spellings) (s : State) (new : Result Read Placed) (f : TextFault) → names ≡ only_nil → s ≡ nothing_read → length text ≤ longest_list
+    → Continues (rest_of text names 0 s) new (Err f) → IsAnswer (reads text) (Err f)
+answered text names s new (answer.At f at) named empty short h =
+    reads_first text short ∙ sym (ap (λ n. rest_of text n 0 s) named ∙ ap (rest_of text only_nil 0) empty) ∙ h
+answered text names s new answer.OutOfMemory named empty short h = tt
 
 -- ---- where no form stands next
 

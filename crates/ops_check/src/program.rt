@@ -9,7 +9,7 @@ ghost use Rattle.ops_grammar.specs.Standing.{words_of, AreRead};
 ghost use Rattle.ops_base.specs.Symbols.{is_held};
 ghost use Rattle.ops_grammar.specs.TextNames.{AreNamesOf};
 ghost use Rattle.ops_forms.specs.Forms.{IsForm};
-ghost use Rattle.ops_check.specs.Answered.{IsRefusal, IsStanding, IsAnswer, Comes, Continues, rest_of};
+ghost use Rattle.ops_check.specs.Answered.{IsRefusal, IsStanding, IsAnswer, Comes, Continues, read_of, rest_of};
 ghost use Rattle.ops_check.specs.Walks.{view};
 
 use crate::draft::Draft;
@@ -60,17 +60,32 @@ fn read_text(alloc: Global, text: &[u8]) -> Result<(Draft, Names), TextFault>
             at: 0,
         });
     }
-    let reader = FormReader::new();
     let mut names = Names::new(alloc)?;
     let mut draft = Draft::new(alloc);
+    match read_forms(alloc, text, &mut names, &mut draft) {
+        Ok(()) => Ok((draft, names)),
+        Err(fault) => Err(fault),
+    }
+}
+
+// all forms of the text, one after another
+fn read_forms(
+    alloc: Global,
+    text: &[u8],
+    names: &mut Names,
+    draft: &mut Draft,
+) -> Result<(), TextFault>
+    ensures { Continues (rest_of text.now names.old 0 (view draft.old)) (Ok (read_of draft.new names.new)) result }
+{
+    let reader = FormReader::new();
     let mut from = 0;
     'forms: loop {
         let form = match next_form(&reader, alloc, text, from) {
             Ok(Some(form)) => form,
-            Ok(None) => return Ok((draft, names)),
+            Ok(None) => return Ok(()),
             Err(fault) => return Err(fault),
         };
-        match read_form(alloc, text, &form, &mut names, &mut draft) {
+        match read_form(alloc, text, &form, names, draft) {
             Ok(()) => from = form.past,
             Err(fault) => return Err(fault),
         }
