@@ -1,5 +1,5 @@
 -- Values and items that are put one after another.
-use Rattle.std.proofs.Common.{◌≡◌, ℕ, ◌+◌, ◌<◌, List, ◌∷◌, ◌++◌, length, drop, get_or, Result, Ok, Err, refl, ap, sym, ◌∙◌, IsTrue}
+use Rattle.std.proofs.Common.{◌≡◌, ℕ, ◌+◌, ◌<◌, List, [], ◌∷◌, ◌++◌, length, drop, get_or, Result, Ok, Err, refl, ap, sym, ◌∙◌, subst, IsTrue}
 use Rattle.std.specs.Prelude.{IsErrAnd}
 use Rattle.std.proofs.lemmas.List.{drop_more}
 use Rattle.ops_base.specs.declared.actions.Item.{Item}
@@ -88,3 +88,16 @@ tab_left classes doing lead n m x a w is same =
 pub width_done : {X : Type 0} (classes : List Class) (doing : State) (lead : Lead) (n : ℕ) (x : Item) (a : Scene) (y : X) → IsTrue a.port.out.whole → x ≡ item.RightIn n
     → Acts (λ _ d. doing_of doing a.names d) (Ok y) a a (λ d. item_done classes lead a.port.out.column x (doing_of doing a.names d))
 width_done classes doing lead n x a y w is = does_nothing y a _ w (λ d. ap (λ x. item_done classes lead a.port.out.column x (doing_of doing a.names d)) is)
+
+-- ---- an item of a known kind
+
+pub same_item : {X : Type 0} {view : X → Coming → Meant} {r : Result X ActionError} {a b : Scene} (classes : List Class) (doing : State) (lead : Lead) (x y : Item) → x ≡ y
+    → Acts view r a b (λ d. item_done classes lead a.port.out.column y (doing_of doing a.names d)) → Acts view r a b (λ d. item_done classes lead a.port.out.column x (doing_of doing a.names d))
+same_item {view = view} {r = r} {a = a} {b = b} classes doing lead x y is p =
+    let P : Item → Type 0 = λ x. Acts view r a b (λ d. item_done classes lead a.port.out.column x (doing_of doing a.names d)) in subst P (sym is) p
+
+pub line_left : (classes : List Class) (doing : State) (lead : Lead) (x : Item) (a : Scene) → IsTrue a.port.out.whole → x ≡ item.Crlf
+    → StillDoes a a (λ d. item_done classes lead a.port.out.column x (doing_of doing a.names d)) (λ d. writes (10 ∷ []) (doing_of doing a.names d))
+line_left classes doing lead x a w is =
+    still_same _ (still_all a (λ d. item_done classes lead a.port.out.column x (doing_of doing a.names d)) w)
+    (λ d. ap (λ x. item_done classes lead a.port.out.column x (doing_of doing a.names d)) is)

@@ -52,6 +52,12 @@ pub action_quiet : {X : Type 0} (y : X) (s : Setting) (x known : Action) (now ne
 action_quiet y s x known now next a w is does =
     does_nothing y a _ w (λ d. ap (λ x. action_done s a.port.out.column x (doing_of now a.names d)) is ∙ does a.names d)
 
+-- an action that is known to be this one
+pub same_action : {X : Type 0} {view : X → Coming → Meant} {r : Result X ActionError} {a b : Scene} (s : Setting) (doing : State) (x y : Action) → x ≡ y
+    → Acts view r a b (λ d. action_done s a.port.out.column y (doing_of doing a.names d)) → Acts view r a b (λ d. action_done s a.port.out.column x (doing_of doing a.names d))
+same_action {view = view} {r = r} {a = a} {b = b} s doing x y is p =
+    let P : Action → Type 0 = λ x. Acts view r a b (λ d. action_done s a.port.out.column x (doing_of doing a.names d)) in subst P (sym is) p
+
 -- ---- the action with this number
 
 -- it is done

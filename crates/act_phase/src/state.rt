@@ -140,13 +140,15 @@ impl<'s> ActState<'s> {
         let conditions = conditions_of(program, inst.rule);
         let tags = inst.tags.as_slice();
         let room = variables_of(program, inst.rule);
+        let bindings = bindings_of(alloc, store, conditions, tags, room)?;
+        let cells = cells_of(alloc, store, tags)?;
         Ok(ActState {
             alloc,
             program,
             watch,
             working: ChangedMemory::new(alloc, store, next_tag),
-            bindings: bindings_of(alloc, store, conditions, tags, room)?,
-            cells: cells_of(alloc, store, tags)?,
+            bindings,
+            cells,
             halted: false,
         })
     }

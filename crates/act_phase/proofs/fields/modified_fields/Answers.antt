@@ -1,10 +1,11 @@
 use Rattle.std.proofs.Common.{ap, sym, refl}
+use Rattle.std.proofs.lemmas.List.{drop_all}
 use Rattle.ops_base.specs.declared.actions.Put.{Put}
 use Rattle.ops_meaning.specs.Acting.{Filled, puts_over, terms_placed}
 use Rattle.ops_meaning.specs.Effects.{silent}
 use Rattle.act_phase.specs.State.{doing_of, filled_of}
 use Rattle.act_phase.specs.declared.outcome.ActionError.TheVariants as mishap
-use Rattle.act_phase.proofs.Deeds.{still_all, still_same, still_short}
+use Rattle.act_phase.proofs.Deeds.{still_all, still_same, still_short, still_done}
 use Rattle.act_phase.proofs.Placing.{put_ok, put_err}
 use Rattle.act_phase.specs.Asking.{put_asks}
 use Rattle.act_phase.proofs.Asking.{none_at, both_then}
@@ -44,3 +45,16 @@ pub returns-in_err-place_put-clause-untouched : goal.returns-in_err-place_put-cl
 returns-in_err-place_put-clause-untouched g c =
     let l = c.loop-put in
     λ none. both_then (l.invariant.untouched none) (c.in_err-place_put.ensures.untouched (none_at put_asks c.args.puts.now l.put-index c.put-item.result c.loop-put-test.true c.put-item.is none))
+
+pub returns-in_err-fields-clause-untouched : goal.returns-in_err-fields-clause-untouched
+returns-in_err-fields-clause-untouched g c = λ none. (refl, refl)
+
+pub returns-clause-does : goal.returns-clause-does
+returns-clause-does g c =
+    let l = c.loop-put in
+    still_done _ l.invariant.does
+    (λ d. ap (λ rest. silent (puts_over c.args.doing.now.setting.classes rest (filled_of l.fields.items (doing_of c.args.doing.now l.names d))))
+    (drop_all l.put-index c.args.puts.now c.loop-put-test.false))
+
+pub returns-clause-untouched : goal.returns-clause-untouched
+returns-clause-untouched g c = c.loop-put.invariant.untouched

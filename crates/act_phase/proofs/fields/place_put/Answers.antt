@@ -1,5 +1,9 @@
 use Rattle.std.proofs.Common.{◌+◌, ap, refl, sym, length, drop, ◌∙◌, arith}
-use Rattle.act_phase.proofs.Deeds.{still_all}
+use Rattle.std.proofs.lemmas.List.{drop_all}
+use Rattle.ops_meaning.specs.Acting.{terms_placed}
+use Rattle.ops_meaning.specs.Effects.{silent}
+use Rattle.act_phase.specs.State.{doing_of, filled_of}
+use Rattle.act_phase.proofs.Deeds.{still_all, still_done}
 use Rattle.act_phase.proofs.Placing.{placed_fits, term_ok, term_err, placed_ok, placed_err}
 use Rattle.act_phase.specs.Asking.{term_asks}
 use Rattle.act_phase.proofs.Asking.{none_at, both_then}
@@ -54,3 +58,13 @@ returns-in_err-place_values-clause-untouched g c =
     let l = c.loop-term in
     let items = c.as_slice-term-items.ensures in
     λ none. both_then (l.invariant.untouched none) (c.in_ok-values.ensures.untouched (none_at term_asks c.args.put.now.terms l.term-index c.term-item.result (rw items at c.loop-term-test.true) (rw items at c.term-item.is) none))
+
+pub returns-clause-does : goal.returns-clause-does
+returns-clause-does g c =
+    let l = c.loop-term in
+    still_done _ l.invariant.does
+    (λ d. ap (λ rest. silent (terms_placed c.args.doing.now.setting.classes l.at rest (filled_of l.fields.items (doing_of c.args.doing.now l.names d))))
+    (drop_all l.term-index c.args.put.now.terms (rw c.as_slice-term-items.ensures at c.loop-term-test.false)))
+
+pub returns-clause-untouched : goal.returns-clause-untouched
+returns-clause-untouched g c = c.loop-term.invariant.untouched

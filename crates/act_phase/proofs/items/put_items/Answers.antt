@@ -1,7 +1,10 @@
+use Rattle.std.proofs.Common.{ap, refl}
+use Rattle.std.proofs.lemmas.List.{drop_all}
+use Rattle.ops_meaning.specs.Acting.{items_done}
 use Rattle.ops_print.specs.Leads.{lead_of}
-use Rattle.act_phase.proofs.Deeds.{still_all}
+use Rattle.act_phase.specs.State.{doing_of}
+use Rattle.act_phase.proofs.Deeds.{still_all, still_done}
 use Rattle.act_phase.proofs.ItemLemmas.{item_put, item_failed}
-use Rattle.std.proofs.Common.{refl}
 use Rattle.act_phase.specs.Asking.{item_asks}
 use Rattle.act_phase.proofs.Asking.{none_at, both_then}
 use Rattle.act_phase.proofs.items.put_items.Goals as goal
@@ -28,3 +31,13 @@ pub returns-in_err-put_item-clause-untouched : goal.returns-in_err-put_item-clau
 returns-in_err-put_item-clause-untouched g c =
     let l = c.loop-item in
     λ none. both_then (l.invariant.untouched none) (c.in_err-put_item.ensures.untouched (none_at item_asks c.args.items.now l.item-index c.item-item.result c.loop-item-test.true c.item-item.is none))
+
+pub returns-clause-does : goal.returns-clause-does
+returns-clause-does g c =
+    let l = c.loop-item in
+    still_done _ l.invariant.does
+    (λ d. ap (λ rest. items_done c.args.doing.now.setting.classes (lead_of l.lead) l.out.column rest (doing_of c.args.doing.now l.names d))
+    (drop_all l.item-index c.args.items.now c.loop-item-test.false))
+
+pub returns-clause-untouched : goal.returns-clause-untouched
+returns-clause-untouched g c = c.loop-item.invariant.untouched
