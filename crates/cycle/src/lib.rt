@@ -2,9 +2,11 @@
 //! another.
 #![tactic(auto)]
 
+mod fired;
 mod maker;
 mod slot;
 mod state;
 
+pub use fired::Fired;
 pub use maker::{Maker, made_over};
 pub use state::State;

@@ -18,16 +18,19 @@ ghost use Rattle.act_phase.specs.Asking.{right_side_asks};
 ghost use Rattle.act_phase.specs.Held.{HoldsProgram, HoldsElements};
 ghost use Rattle.act_phase.specs.Outcomes.{failure_of, is_unread, setting_of};
 ghost use Rattle.conflict_index.specs.Applying.{marked};
-ghost use Rattle.conflict_index.specs.Indexed.{insts_of, nothing_indexed, waiting, KeepsSpecificities};
+ghost use Rattle.conflict_index.specs.Indexed.{insts_of, fired_of, nothing_indexed, waiting, KeepsSpecificities};
 ghost use Rattle.conflict_index.specs.Selecting.{IsFirst};
 ghost use Rattle.cycle.specs.Settles.{Settles};
+ghost use Rattle.cycle.specs.Standing.{after_firing, standing, with_inst, without_gone};
 ghost use Rattle.cycle.specs.States.{Agree, alone, state_course};
 
+use crate::fired::Fired;
 use crate::slot::Slot;
 use act_phase::{ActFault, act, traces_firings};
 use conflict_index::Index;
 use ops_base::commands::Strategy;
 use ops_base::elements::Change;
+use ops_base::list::Listed;
 use ops_base::memory::OutOfMemory;
 use ops_base::programs::Program;
 use ops_base::rules::Inst;
@@ -222,22 +225,22 @@ impl<M: Matcher> State<M> {
         self.index.as_ref().select()
     }
 
-    /// Does changes in their order, which is one phase: the matcher settles once, and the index takes in what that
-    /// tells. After a refusal the state is gone.
-    pub fn change<H: Fn(M, &[Change]) -> Result<Settled<M>, OutOfMemory>>(
+    /// One phase, and what was found before it and is not found after it.
+    fn phase<H: Fn(M, &[Change]) -> Result<Settled<M>, OutOfMemory>>(
         self,
         hand: &H,
         program: &Program,
         changes: &[Change],
-    ) -> Result<State<M>, OutOfMemory>
+    ) -> Result<(State<M>, Listed<Inst>), OutOfMemory>
         requires settles { Settles M.stored M.found M.stands_for (λ m cs. H.pre hand.now m cs) (λ m cs r. H.post hand.now m cs r) }
         requires stands { M.stands_for self.matcher program.now.rules }
         requires specificities { KeepsSpecificities program.now.rules self.index.members }
         requires lawful { Lawful (M.stored self.matcher).elements (M.stored self.matcher).last changes.now }
-        ensures course { IfOk result (λ s. (names : Spellings) (coming : Coming) → state_course M.stored s names coming
+        ensures course { IfOk result (λ r. (names : Spellings) (coming : Coming) → state_course M.stored r.0 names coming
             ≡ phase_by (conflict_set program.now.rules) changes.now self.firings (last_after (M.stored self.matcher).last changes.now) (state_course M.stored self names coming)) }
-        ensures stands { IfOk result (λ s. M.stands_for s.matcher program.now.rules) }
-        ensures specificities { IfOk result (λ s. KeepsSpecificities program.now.rules s.index.members) }
+        ensures marks { IfOk result (λ r. fired_of r.0.index.members ≡ without_gone r.1 (fired_of self.index.members)) }
+        ensures stands { IfOk result (λ r. M.stands_for r.0.matcher program.now.rules) }
+        ensures specificities { IfOk result (λ r. KeepsSpecificities program.now.rules r.0.index.members) }
     {
         let State {
             matcher,
@@ -255,26 +258,48 @@ impl<M: Matcher> State<M> {
         index
             .as_mut()
             .apply(program, gone.as_slice(), come.as_slice())?;
-        Ok(State::of(matcher, index, firings))
+        Ok((State::of(matcher, index, firings), Listed::from_vec(gone)))
+    }
+
+    /// Does changes in their order, which is one phase: the matcher settles once, and the index takes in what that
+    /// tells. After a refusal the state is gone.
+    pub fn change<H: Fn(M, &[Change]) -> Result<Settled<M>, OutOfMemory>>(
+        self,
+        hand: &H,
+        program: &Program,
+        changes: &[Change],
+    ) -> Result<State<M>, OutOfMemory>
+        requires settles { Settles M.stored M.found M.stands_for (λ m cs. H.pre hand.now m cs) (λ m cs r. H.post hand.now m cs r) }
+        requires stands { M.stands_for self.matcher program.now.rules }
+        requires specificities { KeepsSpecificities program.now.rules self.index.members }
+        requires lawful { Lawful (M.stored self.matcher).elements (M.stored self.matcher).last changes.now }
+        ensures course { IfOk result (λ s. (names : Spellings) (coming : Coming) → state_course M.stored s names coming
+            ≡ phase_by (conflict_set program.now.rules) changes.now self.firings (last_after (M.stored self.matcher).last changes.now) (state_course M.stored self names coming)) }
+        ensures stands { IfOk result (λ s. M.stands_for s.matcher program.now.rules) }
+        ensures specificities { IfOk result (λ s. KeepsSpecificities program.now.rules s.index.members) }
+    {
+        let (state, _gone) = self.phase(hand, program, changes)?;
+        Ok(state)
     }
 
     /// This one fires: it is marked, and one firing more is counted.
     fn mark(&mut self, inst: &Inst)
         requires member { Contains (insts_of self.old.index.members) inst.now }
         requires room { self.old.firings < 2 ^ 63 }
-        ensures { self.new ≡ record self.old {
+        ensures marked { self.new ≡ record self.old {
           index = record self.old.index { members = marked inst.now self.old.index.members };
           firings = self.old.firings + 1;
         } }
+        ensures marks { fired_of self.new.index.members ≡ with_inst inst.now (fired_of self.old.index.members) }
     {
         self.index.as_mut().mark(inst);
         self.firings += 1;
     }
 
     /// One firing: its line where firings are traced, the right side of what is next, which is marked, and then one
-    /// phase. The answer tells whether `halt` was done in it. What fires is looked up in the conflict set, and marked
-    /// where it stands. After a refusal the state is gone, and names may have come; how far the input was read is not
-    /// said.
+    /// phase. With the state come what fired, whether `halt` was done in it, its changes, and what is not found any
+    /// more. What fires is looked up in the conflict set, and marked where it stands. After a refusal the state is gone,
+    /// and names may have come; how far the input was read is not said.
     pub fn fire<H: Fn(M, &[Change]) -> Result<Settled<M>, OutOfMemory>, I: Source, K: Sink>(
         self,
         alloc: Global,
@@ -286,7 +311,7 @@ impl<M: Matcher> State<M> {
         source: &mut I,
         out: &mut Out,
         sink: &mut K,
-    ) -> Result<(State<M>, bool), ActFault>
+    ) -> Result<(State<M>, Fired), ActFault>
         requires settles { Settles M.stored M.found M.stands_for (λ m cs. H.pre hand.now m cs) (λ m cs r. H.post hand.now m cs r) }
         requires stands { M.stands_for self.matcher program.now.rules }
         requires specificities { KeepsSpecificities program.now.rules self.index.members }
@@ -297,7 +322,7 @@ impl<M: Matcher> State<M> {
         requires tags { (M.stored self.matcher).last < 2 ^ 63 }
         requires next { IsSome (next_to_fire program.now.rules (alone M.stored self)) }
         ensures performs { (i : Inst) → next_to_fire program.now.rules (alone M.stored self) ≡ Some i
-            → PerformsOn (λ r c. record { course = state_course M.stored r.0 names.new c; halted = r.1 })
+            → PerformsOn (λ r c. record { course = state_course M.stored r.0 names.new c; halted = r.1.halted })
             (λ f. failure_as (ended_in (self.firings + 1) i.rule (rule_name program.now.rules i.rule)) (failure_of f)) result
             (inlet input.old (I.left source.old) (I.faults source.old))
             (inlet input.new (I.left source.new) (I.faults source.new))
@@ -319,6 +344,12 @@ impl<M: Matcher> State<M> {
             × IfOk result (λ r. HoldsElements names.new (M.stored r.0.matcher).elements) }
         ensures stands { IfOk result (λ r. M.stands_for r.0.matcher program.now.rules) }
         ensures specificities { IfOk result (λ r. KeepsSpecificities program.now.rules r.0.index.members) }
+
+        // What fired was next. Its changes can be done in turn to the working memory before it, and with what is gone
+        // they give the working memory, the marks and the last tag after it.
+        ensures inst { IfOk result (λ r. next_to_fire program.now.rules (alone M.stored self) ≡ Some r.1.inst) }
+        ensures lawful { IfOk result (λ r. Lawful (M.stored self.matcher).elements (M.stored self.matcher).last r.1.changes) }
+        ensures leaves { IfOk result (λ r. standing M.stored r.0 ≡ after_firing r.1 (standing M.stored self)) }
     {
         let mut state = self;
         // whoever asked for a firing has looked for what is next, and it is looked up here once more
@@ -340,8 +371,14 @@ impl<M: Matcher> State<M> {
             sink,
         )?;
         state.mark(&inst);
-        let state = state.change(hand, program, acted.changes.as_slice())?;
-        Ok((state, acted.halted))
+        let (state, gone) = state.phase(hand, program, acted.changes.as_slice())?;
+        let fired = Fired {
+            inst,
+            halted: acted.halted,
+            changes: acted.changes,
+            gone,
+        };
+        Ok((state, fired))
     }
 
     /// The conflict set and its marks stay. Those that have not fired are copied into another order, which costs their

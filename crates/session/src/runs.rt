@@ -93,7 +93,7 @@ fn fire<M: Matcher, H: Fn(M, &[Change]) -> Result<Settled<M>, OutOfMemory>, I: S
         out,
         sink,
     ) {
-        Ok((state, halted)) => Ok((Session { state, ..session }, halted)),
+        Ok((state, fired)) => Ok((Session { state, ..session }, fired.halted)),
         Err(fault) => {
             let name = rule_name(context.program.rules.as_slice(), rule);
             Err(ending_of_fault(firings + 1, rule, name, fault))

@@ -1,5 +1,6 @@
 use Rattle.std.proofs.Common.{◌+◌, ◌∙◌, ap, refl, subst, sym, List, Ok, Err}
 use Rattle.std.proofs.lemmas.Result.{err_from_is_err_and}
+use Rattle.ops_base.specs.ConflictSet.{conflict_set}
 use Rattle.ops_base.specs.declared.rules.Inst.{Inst}
 use Rattle.ops_meaning.specs.Running.{Course}
 use Rattle.act_phase.specs.Asking.{right_side_asks}
@@ -9,6 +10,7 @@ use Rattle.conflict_index.specs.Indexed.{Member, KeepsSpecificities}
 use Rattle.cycle.specs.States.{no_names, no_input, state_course}
 use Rattle.cycle.proofs.HeldAfter.{nothing_left, held_after}
 use Rattle.cycle.proofs.Marks.{some_copied, next_member, marked_specificities}
+use Rattle.cycle.proofs.Standings.{lawful_over, leaves}
 use Rattle.cycle.proofs.Firings.{same_next, fires_not, fires_unseen, behind_line, fires_badly, fires_short, fires}
 use Rattle.cycle.proofs.state.State.fire.Goals as goal
 
@@ -43,10 +45,10 @@ returns-in_err-acted-clause-performs g c = λ i is.
 pub mark-requires-clause-member : goal.mark-requires-clause-member
 mark-requires-clause-member g c = next_member c.args.self.index.members c.next.result c.in_ok-inst.inst c.next.ensures.waiting c.in_ok-inst.ensures
 
-pub change-requires-clause-specificities : goal.change-requires-clause-specificities
-change-requires-clause-specificities g c =
+pub phase-requires-clause-specificities : goal.phase-requires-clause-specificities
+phase-requires-clause-specificities g c =
     let P : List Member → Type 0 = KeepsSpecificities c.args.program.now.rules in
-    subst P (sym (ap (λ h. h.index.members) c.mark.ensures)) (marked_specificities c.args.program.now.rules c.in_ok-inst.inst c.args.self.index.members c.requires.specificities)
+    subst P (sym (ap (λ h. h.index.members) c.mark.ensures.marked)) (marked_specificities c.args.program.now.rules c.in_ok-inst.inst c.args.self.index.members c.requires.specificities)
 
 pub returns-in_err-state-clause-performs : goal.returns-in_err-state-clause-performs
 returns-in_err-state-clause-performs g c = λ i is.
@@ -66,7 +68,7 @@ returns-clause-performs g c = λ i is.
     (fires g.M.Matcher.stored (setting_of c.args.program.now c.args.watch) c.put_trace.new.out.column i c.args.self c.args.names.now c.store.result.now c.store.ensures c.in_ok-inst.inst same
     (c.last_tag-tag.result + 1) (ap (λ n. n + 1) c.last_tag-tag.ensures.last) c.act.new.names c.in_ok-acted.acted c.in_ok-acted.ensures.reads c.in_ok-acted.ensures.acts
     _ c.last_tag-tag.ensures.kept (next_member c.args.self.index.members c.next.result c.in_ok-inst.inst c.next.ensures.waiting c.in_ok-inst.ensures)
-    c.mark.new.self c.mark.ensures c.as_slice.result.now c.as_slice.ensures (λ z. state_course g.M.Matcher.stored c.in_ok-state.state c.act.new.names z) (λ z. c.in_ok-state.ensures.course c.act.new.names z)
+    c.mark.new.self c.mark.ensures.marked c.as_slice.result.now c.as_slice.ensures (λ z. state_course g.M.Matcher.stored c.in_ok-state.state c.act.new.names z) (λ z. c.in_ok-state.ensures.course c.act.new.names z)
     (λ z. refl))
 
 pub returns-in_err-acted-clause-untouched : goal.returns-in_err-acted-clause-untouched
@@ -105,4 +107,16 @@ returns-clause-held g c = λ h e.
     let held = c.in_ok-acted.ensures.held h (rw c.store.ensures e) in
     let before = rw c.store.ensures at held.1 in
     let is = ap (λ (m : Course). m.wm) (c.in_ok-state.ensures.course c.act.new.names no_input) in
-    (held.0, before, held_after c.act.new.names _ _ c.as_slice.result.now (rw c.mark.ensures before) (rw c.as_slice.ensures held.2) is)
+    (held.0, before, held_after c.act.new.names _ _ c.as_slice.result.now (rw c.mark.ensures.marked before) (rw c.as_slice.ensures held.2) is)
+
+pub returns-clause-inst : goal.returns-clause-inst
+returns-clause-inst g c =
+    sym (c.next.ensures.dominant c.args.program.now.rules no_names no_input c.requires.stands c.requires.specificities) ∙ c.in_ok-inst.ensures
+
+pub returns-clause-lawful : goal.returns-clause-lawful
+returns-clause-lawful g c = lawful_over _ _ c.store.ensures (c.last_tag-tag.result + 1) (ap (λ n. n + 1) c.last_tag-tag.ensures.last) c.in_ok-acted.acted.changes c.in_ok-acted.ensures.lawful
+
+pub returns-clause-leaves : goal.returns-clause-leaves
+returns-clause-leaves g c =
+    leaves g.M.Matcher.stored c.args.self c.mark.new.self c.in_ok-state.state c.in_ok-inst.inst c.in_ok-acted.acted.halted c.in_ok-acted.acted.changes c.in_ok-state.gone
+    c.as_slice.result.now c.as_slice.ensures (conflict_set c.args.program.now.rules) c.mark.ensures.marked c.mark.ensures.marks (λ names coming. c.in_ok-state.ensures.course names coming) c.in_ok-state.ensures.marks
