@@ -3,10 +3,12 @@
 #![tactic(auto)]
 
 mod fired;
+mod firer;
 mod maker;
 mod slot;
 mod state;
 
 pub use fired::Fired;
+pub use firer::{Firer, InTurn};
 pub use maker::{Maker, made_over};
 pub use state::State;

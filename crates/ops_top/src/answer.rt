@@ -11,7 +11,7 @@ ghost use Rattle.why_lines.specs.Explained.{explained_if};
 
 use crate::closing::put_closing;
 use crate::engines::Plan;
-use cycle::Maker;
+use cycle::{InTurn, Maker};
 use live_rules::Live;
 use ops_base::elements::Change;
 use ops_base::endings::Ending;
@@ -20,7 +20,7 @@ use ops_base::programs::Program;
 use ops_base::symbols::Names;
 use ops_io::{Input, Out, Sink, Source, Stop};
 use ops_meaning::Status;
-use session::run_session;
+use session::{SessionContext, run_session};
 use std::alloc::Global;
 use std::mem;
 use work_store::Settled;
@@ -81,21 +81,18 @@ fn answer_live<
 {
     let mut input = Input::new(alloc)?;
     let mut out = Out::new(alloc)?;
-    let limit = plan.options.limit;
-    let is_explained = plan.is_explained;
-    let ending = run_session(
+    let firer = InTurn::new(hand);
+    let context = SessionContext {
         alloc,
-        hand,
-        live,
-        names,
         maker,
-        limit,
-        is_explained,
-        &mut input,
-        source,
-        &mut out,
-        sink,
-    )?;
+        settle: hand,
+        firer: &firer,
+        limit: plan.options.limit,
+        is_explained: plan.is_explained,
+    };
+    let ended = run_session(&context, live, names, &mut input, source, &mut out, sink);
+    drop(firer);
+    let ending = ended?;
     put_closing(alloc, names, &ending, plan.is_summed, &mut out, sink)?;
     out.flush(sink)?;
     Ok(status_of(ending))

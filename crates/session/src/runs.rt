@@ -19,6 +19,7 @@ use crate::bounds::UNREACHED;
 use crate::context::RunContext;
 use crate::session::Session;
 use act_phase::ActFault;
+use cycle::Firer;
 use ops_base::elements::Change;
 use ops_base::endings::Ending;
 use ops_base::memory::OutOfMemory;
@@ -48,8 +49,8 @@ fn ending_of_fault(firing: u64, rule: usize, name: Sym, fault: ActFault) -> Endi
 }
 
 /// The firing of the dominant instantiation, which is of this production.
-fn fire<M: Matcher, H: Fn(M, &[Change]) -> Result<Settled<M>, OutOfMemory>, I: Source, K: Sink>(
-    context: &RunContext<'_, H>,
+fn fire<M: Matcher, H: Fn(M, &[Change]) -> Result<Settled<M>, OutOfMemory>, F: Firer<M>, I: Source, K: Sink>(
+    context: &RunContext<'_, H, F>,
     names: &mut Names,
     session: Session<M>,
     rule: usize,
@@ -59,6 +60,7 @@ fn fire<M: Matcher, H: Fn(M, &[Change]) -> Result<Settled<M>, OutOfMemory>, I: S
     sink: &mut K,
 ) -> Result<(Session<M>, bool), Ending>
     requires settles { Settles M.stored M.found M.stands_for (λ m cs. H.pre context.now.settle.now m cs) (λ m cs r. H.post context.now.settle.now m cs r) }
+    requires able { F.able context.now.firer.now }
     requires whole { IsTrue out.old.whole }
     requires faults { K.faults sink.old < 2 ^ 63 }
     requires reads { I.faults source.old < 2 ^ 63 }
@@ -82,9 +84,9 @@ fn fire<M: Matcher, H: Fn(M, &[Change]) -> Result<Settled<M>, OutOfMemory>, I: S
     if firings >= UNREACHED || session.state.last_tag() >= UNREACHED {
         return Err(Ending::OutOfMemory);
     }
-    match session.state.fire(
+    match context.firer.fire(
         context.alloc,
-        context.settle,
+        session.state,
         context.program,
         names,
         session.watch,
@@ -207,11 +209,11 @@ fn show<K: Sink>(out: &mut Out, sink: &mut K) -> Result<(), WriteFailed>
 /// order, and the limit after them. Where someone reads along, what a firing put is written out after it.
 pub(crate) fn run<
     M: Matcher,
-    H: Fn(M, &[Change]) -> Result<Settled<M>, OutOfMemory>,
+    H: Fn(M, &[Change]) -> Result<Settled<M>, OutOfMemory>, F: Firer<M>,
     I: Source,
     K: Sink,
 >(
-    context: &RunContext<'_, H>,
+    context: &RunContext<'_, H, F>,
     names: &mut Names,
     session: Session<M>,
     count: Option<u64>,
@@ -221,6 +223,7 @@ pub(crate) fn run<
     sink: &mut K,
 ) -> Result<Session<M>, Ending>
     requires settles { Settles M.stored M.found M.stands_for (λ m cs. H.pre context.now.settle.now m cs) (λ m cs r. H.post context.now.settle.now m cs r) }
+    requires able { F.able context.now.firer.now }
     requires whole { IsTrue out.old.whole }
     requires faults { K.faults sink.old < 2 ^ 63 }
     requires reads { I.faults source.old < 2 ^ 63 }
