@@ -2,13 +2,13 @@
 //! another.
 #![tactic(auto)]
 
+mod actor;
 mod fired;
-mod firer;
 mod maker;
 mod slot;
 mod state;
 
+pub use actor::{Actor, InTurn};
 pub use fired::Fired;
-pub use firer::{Firer, InTurn};
 pub use maker::{Maker, made_over};
 pub use state::State;

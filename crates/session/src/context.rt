@@ -6,14 +6,14 @@ use std::alloc::Global;
 
 /// What the commands of a session share, and none of them changes.
 #[derive(Clone, Copy)]
-pub struct SessionContext<'a, B, H, F> {
+pub struct SessionContext<'a, B, H, A> {
     pub alloc: Global,
     /// Makes a matcher for a program.
     pub maker: &'a B,
     /// Settles the matcher.
     pub settle: &'a H,
-    /// Makes a firing.
-    pub firer: &'a F,
+    /// Does right sides, and settles the matcher by their changes.
+    pub actor: &'a A,
     /// The session makes at most this many firings.
     pub limit: u64,
     /// Whether its productions are explained at its end.
@@ -22,12 +22,12 @@ pub struct SessionContext<'a, B, H, F> {
 
 /// What a command has that changes no production.
 #[derive(Clone, Copy)]
-pub(crate) struct RunContext<'a, H, F> {
+pub(crate) struct RunContext<'a, H, A> {
     pub(crate) alloc: Global,
     /// Settles the matcher.
     pub(crate) settle: &'a H,
-    /// Makes a firing.
-    pub(crate) firer: &'a F,
+    /// Does right sides, and settles the matcher by their changes.
+    pub(crate) actor: &'a A,
     /// The program in force.
     pub(crate) program: &'a Program,
     /// The session makes at most this many firings.

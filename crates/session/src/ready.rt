@@ -16,8 +16,8 @@ use ops_base::memory::OutOfMemory;
 use work_store::{Matcher, Settled};
 
 /// The state follows the productions in force.
-fn follow<B: Maker, H: Fn(B::M, &[Change]) -> Result<Settled<B::M>, OutOfMemory>, F>(
-    context: &RunContext<'_, H, F>,
+fn follow<B: Maker, H: Fn(B::M, &[Change]) -> Result<Settled<B::M>, OutOfMemory>, A>(
+    context: &RunContext<'_, H, A>,
     maker: &B,
     session: Session<B::M>,
 ) -> Result<Session<B::M>, OutOfMemory>
@@ -69,8 +69,8 @@ fn follow<B: Maker, H: Fn(B::M, &[Change]) -> Result<Settled<B::M>, OutOfMemory>
 }
 
 /// The state follows the productions in force, and nothing waits.
-fn settle_all<B: Maker, H: Fn(B::M, &[Change]) -> Result<Settled<B::M>, OutOfMemory>, F>(
-    context: &RunContext<'_, H, F>,
+fn settle_all<B: Maker, H: Fn(B::M, &[Change]) -> Result<Settled<B::M>, OutOfMemory>, A>(
+    context: &RunContext<'_, H, A>,
     maker: &B,
     session: Session<B::M>,
 ) -> Result<Session<B::M>, OutOfMemory>
@@ -90,9 +90,9 @@ fn settle_all<B: Maker, H: Fn(B::M, &[Change]) -> Result<Settled<B::M>, OutOfMem
 /// Nothing waits. Where nothing did, the state stays as it is.
 pub(crate) fn settle_pending<
     B: Maker,
-    H: Fn(B::M, &[Change]) -> Result<Settled<B::M>, OutOfMemory>, F,
+    H: Fn(B::M, &[Change]) -> Result<Settled<B::M>, OutOfMemory>, A,
 >(
-    context: &RunContext<'_, H, F>,
+    context: &RunContext<'_, H, A>,
     maker: &B,
     session: Session<B::M>,
 ) -> Result<Session<B::M>, OutOfMemory>
@@ -111,8 +111,8 @@ pub(crate) fn settle_pending<
 
 /// Once a run was begun, the state follows the productions in force. Before that makes wait; where many do, their phases
 /// are made.
-fn make_room<B: Maker, H: Fn(B::M, &[Change]) -> Result<Settled<B::M>, OutOfMemory>, F>(
-    context: &RunContext<'_, H, F>,
+fn make_room<B: Maker, H: Fn(B::M, &[Change]) -> Result<Settled<B::M>, OutOfMemory>, A>(
+    context: &RunContext<'_, H, A>,
     maker: &B,
     session: Session<B::M>,
 ) -> Result<Session<B::M>, OutOfMemory>
@@ -134,8 +134,8 @@ fn make_room<B: Maker, H: Fn(B::M, &[Change]) -> Result<Settled<B::M>, OutOfMemo
 
 /// Makes a session ready for a command. Commands that change productions make nothing ready: so the state follows many
 /// of them at once, when something looks at it.
-pub(crate) fn make_ready<B: Maker, H: Fn(B::M, &[Change]) -> Result<Settled<B::M>, OutOfMemory>, F>(
-    context: &RunContext<'_, H, F>,
+pub(crate) fn make_ready<B: Maker, H: Fn(B::M, &[Change]) -> Result<Settled<B::M>, OutOfMemory>, A>(
+    context: &RunContext<'_, H, A>,
     maker: &B,
     session: Session<B::M>,
     command: &Command,

@@ -19,7 +19,7 @@ use crate::bounds::UNREACHED;
 use crate::context::RunContext;
 use crate::session::Session;
 use act_phase::ActFault;
-use cycle::Firer;
+use cycle::Actor;
 use ops_base::elements::Change;
 use ops_base::endings::Ending;
 use ops_base::memory::OutOfMemory;
@@ -49,8 +49,8 @@ fn ending_of_fault(firing: u64, rule: usize, name: Sym, fault: ActFault) -> Endi
 }
 
 /// The firing of the dominant instantiation, which is of this production.
-fn fire<M: Matcher, H: Fn(M, &[Change]) -> Result<Settled<M>, OutOfMemory>, F: Firer<M>, I: Source, K: Sink>(
-    context: &RunContext<'_, H, F>,
+fn fire<M: Matcher, H: Fn(M, &[Change]) -> Result<Settled<M>, OutOfMemory>, A: Actor<M, I, K>, I: Source, K: Sink>(
+    context: &RunContext<'_, H, A>,
     names: &mut Names,
     session: Session<M>,
     rule: usize,
@@ -60,7 +60,7 @@ fn fire<M: Matcher, H: Fn(M, &[Change]) -> Result<Settled<M>, OutOfMemory>, F: F
     sink: &mut K,
 ) -> Result<(Session<M>, bool), Ending>
     requires settles { Settles M.stored M.found M.stands_for (λ m cs. H.pre context.now.settle.now m cs) (λ m cs r. H.post context.now.settle.now m cs r) }
-    requires able { F.able context.now.firer.now }
+    requires able { A.able context.now.actor.now }
     requires whole { IsTrue out.old.whole }
     requires faults { K.faults sink.old < 2 ^ 63 }
     requires reads { I.faults source.old < 2 ^ 63 }
@@ -84,9 +84,9 @@ fn fire<M: Matcher, H: Fn(M, &[Change]) -> Result<Settled<M>, OutOfMemory>, F: F
     if firings >= UNREACHED || session.state.last_tag() >= UNREACHED {
         return Err(Ending::OutOfMemory);
     }
-    match context.firer.fire(
+    match session.state.fire(
         context.alloc,
-        session.state,
+        context.actor,
         context.program,
         names,
         session.watch,
@@ -209,11 +209,11 @@ fn show<K: Sink>(out: &mut Out, sink: &mut K) -> Result<(), WriteFailed>
 /// order, and the limit after them. Where someone reads along, what a firing put is written out after it.
 pub(crate) fn run<
     M: Matcher,
-    H: Fn(M, &[Change]) -> Result<Settled<M>, OutOfMemory>, F: Firer<M>,
+    H: Fn(M, &[Change]) -> Result<Settled<M>, OutOfMemory>, A: Actor<M, I, K>,
     I: Source,
     K: Sink,
 >(
-    context: &RunContext<'_, H, F>,
+    context: &RunContext<'_, H, A>,
     names: &mut Names,
     session: Session<M>,
     count: Option<u64>,
@@ -223,7 +223,7 @@ pub(crate) fn run<
     sink: &mut K,
 ) -> Result<Session<M>, Ending>
     requires settles { Settles M.stored M.found M.stands_for (λ m cs. H.pre context.now.settle.now m cs) (λ m cs r. H.post context.now.settle.now m cs r) }
-    requires able { F.able context.now.firer.now }
+    requires able { A.able context.now.actor.now }
     requires whole { IsTrue out.old.whole }
     requires faults { K.faults sink.old < 2 ^ 63 }
     requires reads { I.faults source.old < 2 ^ 63 }

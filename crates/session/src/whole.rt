@@ -17,7 +17,7 @@ ghost use Rattle.why_lines.specs.Explained.{explained_if, explains};
 use crate::commands::do_commands;
 use crate::context::SessionContext;
 use crate::session::Session;
-use cycle::{Firer, Maker};
+use cycle::{Actor, Maker};
 use live_rules::Live;
 use ops_base::elements::Change;
 use ops_base::endings::Ending;
@@ -81,11 +81,11 @@ fn put_explanations<M: Matcher, K: Sink>(
 /// Does the commands of a program from nothing, and then explains the productions in force where that is asked for.
 fn do_all<
     B: Maker,
-    H: Fn(B::M, &[Change]) -> Result<Settled<B::M>, OutOfMemory>, F: Firer<B::M>,
+    H: Fn(B::M, &[Change]) -> Result<Settled<B::M>, OutOfMemory>, A: Actor<B::M, I, K>,
     I: Source,
     K: Sink,
 >(
-    context: &SessionContext<'_, B, H, F>,
+    context: &SessionContext<'_, B, H, A>,
     live: &mut Live,
     names: &mut Names,
     input: &mut Input,
@@ -94,7 +94,7 @@ fn do_all<
     sink: &mut K,
 ) -> Result<Session<B::M>, Ending>
     requires settles { Settles B.M.stored B.M.found B.M.stands_for (λ m cs. H.pre context.now.settle.now m cs) (λ m cs r. H.post context.now.settle.now m cs r) }
-    requires able { F.able context.now.firer.now }
+    requires able { A.able context.now.actor.now }
     requires whole { IsTrue out.old.whole }
     requires faults { K.faults sink.old < 2 ^ 63 }
     requires reads { I.faults source.old < 2 ^ 63 }
@@ -128,11 +128,11 @@ fn do_all<
 pub fn run_session<
     B: Maker,
     H: Fn(B::M, &[Change]) -> Result<Settled<B::M>, OutOfMemory>,
-    F: Firer<B::M>,
+    A: Actor<B::M, I, K>,
     I: Source,
     K: Sink,
 >(
-    context: &SessionContext<'_, B, H, F>,
+    context: &SessionContext<'_, B, H, A>,
     live: &mut Live,
     names: &mut Names,
     input: &mut Input,
@@ -141,7 +141,7 @@ pub fn run_session<
     sink: &mut K,
 ) -> Result<Ending, Stop>
     requires settles { Settles B.M.stored B.M.found B.M.stands_for (λ m cs. H.pre context.now.settle.now m cs) (λ m cs r. H.post context.now.settle.now m cs r) }
-    requires able { F.able context.now.firer.now }
+    requires able { A.able context.now.actor.now }
     requires whole { IsTrue out.old.whole }
     requires faults { K.faults sink.old < 2 ^ 63 }
     requires reads { I.faults source.old < 2 ^ 63 }
