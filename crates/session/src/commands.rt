@@ -35,7 +35,13 @@ use ops_io::{Input, Out, Sink, Source};
 use work_store::{Matcher, Settled};
 
 /// The command `run`.
-fn run_from<M: Matcher, H: Fn(M, &[Change]) -> Result<Settled<M>, OutOfMemory>, A: Actor<M, I, K>, I: Source, K: Sink>(
+fn run_from<
+    M: Matcher,
+    H: Fn(M, &[Change]) -> Result<Settled<M>, OutOfMemory>,
+    A: Actor<M, I, K>,
+    I: Source,
+    K: Sink,
+>(
     context: &RunContext<'_, H, A>,
     names: &mut Names,
     session: Session<M>,
@@ -78,7 +84,8 @@ fn run_from<M: Matcher, H: Fn(M, &[Change]) -> Result<Settled<M>, OutOfMemory>, 
 /// Does one command that changes no production, in a session that is ready for it.
 fn do_in_force<
     M: Matcher,
-    H: Fn(M, &[Change]) -> Result<Settled<M>, OutOfMemory>, A: Actor<M, I, K>,
+    H: Fn(M, &[Change]) -> Result<Settled<M>, OutOfMemory>,
+    A: Actor<M, I, K>,
     I: Source,
     K: Sink,
 >(
@@ -154,7 +161,8 @@ fn do_in_force<
 /// Does one command that changes no production, once the session is ready for it.
 fn do_at_once<
     B: Maker,
-    H: Fn(B::M, &[Change]) -> Result<Settled<B::M>, OutOfMemory>, A: Actor<B::M, I, K>,
+    H: Fn(B::M, &[Change]) -> Result<Settled<B::M>, OutOfMemory>,
+    A: Actor<B::M, I, K>,
     I: Source,
     K: Sink,
 >(
@@ -195,7 +203,8 @@ fn do_at_once<
 /// Does one command.
 fn do_command<
     B: Maker,
-    H: Fn(B::M, &[Change]) -> Result<Settled<B::M>, OutOfMemory>, A: Actor<B::M, I, K>,
+    H: Fn(B::M, &[Change]) -> Result<Settled<B::M>, OutOfMemory>,
+    A: Actor<B::M, I, K>,
     I: Source,
     K: Sink,
 >(
@@ -270,7 +279,8 @@ fn is_exit(command: &Command) -> bool
 /// or more, and none where the command put nothing.
 fn do_each<
     B: Maker,
-    H: Fn(B::M, &[Change]) -> Result<Settled<B::M>, OutOfMemory>, A: Actor<B::M, I, K>,
+    H: Fn(B::M, &[Change]) -> Result<Settled<B::M>, OutOfMemory>,
+    A: Actor<B::M, I, K>,
     I: Source,
     K: Sink,
 >(
@@ -323,7 +333,8 @@ fn do_each<
 /// Does the commands of a program from nothing. Working memory is left in the order of its tags, and nothing waits.
 pub(crate) fn do_commands<
     B: Maker,
-    H: Fn(B::M, &[Change]) -> Result<Settled<B::M>, OutOfMemory>, A: Actor<B::M, I, K>,
+    H: Fn(B::M, &[Change]) -> Result<Settled<B::M>, OutOfMemory>,
+    A: Actor<B::M, I, K>,
     I: Source,
     K: Sink,
 >(

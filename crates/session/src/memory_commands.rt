@@ -150,7 +150,8 @@ fn make_one<M: Matcher, H: Fn(M, &[Change]) -> Result<Settled<M>, OutOfMemory>, 
 /// at once.
 pub(crate) fn make_at_top<
     M: Matcher,
-    H: Fn(M, &[Change]) -> Result<Settled<M>, OutOfMemory>, A,
+    H: Fn(M, &[Change]) -> Result<Settled<M>, OutOfMemory>,
+    A,
     K: Sink,
 >(
     context: &RunContext<'_, H, A>,
@@ -221,7 +222,12 @@ fn all_removals(alloc: Global, store: &Store) -> Result<Listed<Change>, OutOfMem
 }
 
 /// The command `remove` with tags: removes their elements, which is one phase.
-pub(crate) fn remove<M: Matcher, H: Fn(M, &[Change]) -> Result<Settled<M>, OutOfMemory>, A, K: Sink>(
+pub(crate) fn remove<
+    M: Matcher,
+    H: Fn(M, &[Change]) -> Result<Settled<M>, OutOfMemory>,
+    A,
+    K: Sink,
+>(
     context: &RunContext<'_, H, A>,
     names: &Names,
     session: Session<M>,
@@ -247,7 +253,8 @@ pub(crate) fn remove<M: Matcher, H: Fn(M, &[Change]) -> Result<Settled<M>, OutOf
 /// The command `remove *`: removes all elements, which is one phase.
 pub(crate) fn remove_all<
     M: Matcher,
-    H: Fn(M, &[Change]) -> Result<Settled<M>, OutOfMemory>, A,
+    H: Fn(M, &[Change]) -> Result<Settled<M>, OutOfMemory>,
+    A,
     K: Sink,
 >(
     context: &RunContext<'_, H, A>,

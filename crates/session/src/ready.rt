@@ -90,7 +90,8 @@ fn settle_all<B: Maker, H: Fn(B::M, &[Change]) -> Result<Settled<B::M>, OutOfMem
 /// Nothing waits. Where nothing did, the state stays as it is.
 pub(crate) fn settle_pending<
     B: Maker,
-    H: Fn(B::M, &[Change]) -> Result<Settled<B::M>, OutOfMemory>, A,
+    H: Fn(B::M, &[Change]) -> Result<Settled<B::M>, OutOfMemory>,
+    A,
 >(
     context: &RunContext<'_, H, A>,
     maker: &B,

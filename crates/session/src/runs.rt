@@ -49,7 +49,13 @@ fn ending_of_fault(firing: u64, rule: usize, name: Sym, fault: ActFault) -> Endi
 }
 
 /// The firing of the dominant instantiation, which is of this production.
-fn fire<M: Matcher, H: Fn(M, &[Change]) -> Result<Settled<M>, OutOfMemory>, A: Actor<M, I, K>, I: Source, K: Sink>(
+fn fire<
+    M: Matcher,
+    H: Fn(M, &[Change]) -> Result<Settled<M>, OutOfMemory>,
+    A: Actor<M, I, K>,
+    I: Source,
+    K: Sink,
+>(
     context: &RunContext<'_, H, A>,
     names: &mut Names,
     session: Session<M>,
@@ -209,7 +215,8 @@ fn show<K: Sink>(out: &mut Out, sink: &mut K) -> Result<(), WriteFailed>
 /// order, and the limit after them. Where someone reads along, what a firing put is written out after it.
 pub(crate) fn run<
     M: Matcher,
-    H: Fn(M, &[Change]) -> Result<Settled<M>, OutOfMemory>, A: Actor<M, I, K>,
+    H: Fn(M, &[Change]) -> Result<Settled<M>, OutOfMemory>,
+    A: Actor<M, I, K>,
     I: Source,
     K: Sink,
 >(

@@ -81,7 +81,8 @@ fn put_explanations<M: Matcher, K: Sink>(
 /// Does the commands of a program from nothing, and then explains the productions in force where that is asked for.
 fn do_all<
     B: Maker,
-    H: Fn(B::M, &[Change]) -> Result<Settled<B::M>, OutOfMemory>, A: Actor<B::M, I, K>,
+    H: Fn(B::M, &[Change]) -> Result<Settled<B::M>, OutOfMemory>,
+    A: Actor<B::M, I, K>,
     I: Source,
     K: Sink,
 >(
