@@ -119,19 +119,18 @@ module _ {M : Type 0} (stored : M → Stored) (s : Setting) (column : ℕ) (i : 
           let P : Turned → Type 0 = λ t. Leaves t a b (fires_of w) in
           subst P (ap turned ended) (told_leaves (turned_of s.rules i (state_course stored h names w)) (ended_in (h.firings + 1) i.rule (rule_name s.rules i.rule)) x a b (acts w) left)
 
-  module _ {p q : Inlet} {a b : Port} (x : Stored) (held : x ≡ stored h.matcher) (w : Inst) (is : w ≡ i) (tag : ℕ) (next_tag : tag ≡ (stored h.matcher).last + 1) (new : Spellings) where
+  module _ {p q : Inlet} {a b : Port} (x : Stored) (held : x ≡ stored h.matcher) (w : Inst) (is : w ≡ i) (tag : ℕ) (last_tag : tag ≡ (stored h.matcher).last) (new : Spellings) where
     -- what was done over these is what is to be done
-    meant : (r : Result Acted ActFault) → PerformsOn (λ y z. acted_of y new z) failure_of r p q a b (acts_over x w (tag - 1)) → PerformsOn (λ y z. acted_of y new z) failure_of r p q a b acts
+    meant : (r : Result Acted ActFault) → PerformsOn (λ y z. acted_of y new z) failure_of r p q a b (acts_over x w tag) → PerformsOn (λ y z. acted_of y new z) failure_of r p q a b acts
     meant r did =
         let over : Stored → Inst → ℕ → Type 0 = λ x w n. PerformsOn (λ y z. acted_of y new z) failure_of r p q a b (acts_over x w n) in
-        let last : tag - 1 ≡ (stored h.matcher).last = omega arith in
-        let P : Stored → Type 0 = λ x. over x w (tag - 1) in
-        let Q : Inst → Type 0 = λ w. over (stored h.matcher) w (tag - 1) in
+        let P : Stored → Type 0 = λ x. over x w tag in
+        let Q : Inst → Type 0 = λ w. over (stored h.matcher) w tag in
         let R : ℕ → Type 0 = λ n. over (stored h.matcher) i n in
-        subst R last (subst Q is (subst P held did))
+        subst R last_tag (subst Q is (subst P held did))
 
     -- the right side has a fault, or a device or memory failed in it
-    pub fires_badly : {X : Type 0} {view : X → Coming → Turned} (f : ActFault) → (let r : Result Acted ActFault = Err f in PerformsOn (λ y z. acted_of y new z) failure_of r p q a b (acts_over x w (tag - 1))) → (let r : Result X ActFault = Err f in PerformsOn view ends r p q a b fires_of)
+    pub fires_badly : {X : Type 0} {view : X → Coming → Turned} (f : ActFault) → (let r : Result Acted ActFault = Err f in PerformsOn (λ y z. acted_of y new z) failure_of r p q a b (acts_over x w tag)) → (let r : Result X ActFault = Err f in PerformsOn view ends r p q a b fires_of)
     fires_badly {view = view} f did =
         let left = fails_on (λ y z. acted_of y new z) failure_of f p q a b acts (meant (Err f) did) in
         on_err view ends f p q a b fires_of (record {
@@ -141,7 +140,7 @@ module _ {M : Type 0} (stored : M → Stored) (s : Setting) (column : ℕ) (i : 
               (acts (preceded_by left.taken z)) (left.fails z after);
         })
 
-    module _ (y : Acted) (steady : q.faults ≡ p.faults) (did : let r : Result Acted ActFault = Ok y in PerformsOn (λ y z. acted_of y new z) failure_of r p q a b (acts_over x w (tag - 1))) where
+    module _ (y : Acted) (steady : q.faults ≡ p.faults) (did : let r : Result Acted ActFault = Ok y in PerformsOn (λ y z. acted_of y new z) failure_of r p q a b (acts_over x w tag)) where
       left : LeavesOn (acted_of y new) p q a b acts
       left = leaves_on (λ y z. acted_of y new z) failure_of y p q a b acts steady (meant (Ok y) did)
 
@@ -203,3 +202,43 @@ module _ {M : Type 0} (stored : M → Stored) (s : Setting) (i : Inst) (h : Held
           let told = subst P (line_is a.out.column number w next is) put in
           let Q : ℕ → Type 0 = λ n. PerformsOn view ends_so r p q a c (λ z. led_by line (fires_of stored s n i h names z)) in
           subst Q told.column (performs_on_led view ends_so r p q a b c line (fires_of stored s b.out.column i h names) told did)
+
+-- what was done, seen in more than that
+module _ {X : Type 0} {names : Spellings} (seen : X → Acted) {p q : Inlet} {a b : Port} {e : Coming → Effect Misdeed Meant} where
+  pub told_good : {x : X} → (let r : Result X ActFault = Ok x in PerformsOn (λ x z. acted_of (seen x) names z) failure_of r p q a b e) → (let r : Result Acted ActFault = Ok (seen x) in PerformsOn (λ y z. acted_of y names z) failure_of r p q a b e)
+  told_good d = record { taken = d.taken; took = d.took; performs = d.performs }
+
+  pub told_bad : {f : ActFault} → (let r : Result X ActFault = Err f in PerformsOn (λ x z. acted_of (seen x) names z) failure_of r p q a b e) → (let r : Result Acted ActFault = Err f in PerformsOn (λ y z. acted_of y names z) failure_of r p q a b e)
+  told_bad d = record { taken = d.taken; took = d.took; performs = d.performs }
+
+  -- the same, the other way about
+  pub seen_good : {x : X} → (let r : Result Acted ActFault = Ok (seen x) in PerformsOn (λ y z. acted_of y names z) failure_of r p q a b e) → (let r : Result X ActFault = Ok x in PerformsOn (λ x z. acted_of (seen x) names z) failure_of r p q a b e)
+  seen_good d = record { taken = d.taken; took = d.took; performs = d.performs }
+
+  pub seen_bad : {f : ActFault} → (let r : Result Acted ActFault = Err f in PerformsOn (λ y z. acted_of y names z) failure_of r p q a b e) → (let r : Result X ActFault = Err f in PerformsOn (λ x z. acted_of (seen x) names z) failure_of r p q a b e)
+  seen_bad d = record { taken = d.taken; took = d.took; performs = d.performs }
+
+module _ {Y : Type 0} {names : Spellings} (other : Y → Acted) {p q : Inlet} {a b : Port} {e : Coming → Effect Misdeed Meant} where
+  -- memory ran out after it
+  pub good_short : (y : Acted) → q.faults ≡ p.faults → (let r : Result Acted ActFault = Ok y in PerformsOn (λ y z. acted_of y names z) failure_of r p q a b e) → (let r : Result Y ActFault = Err fault.OutOfMemory in PerformsOn (λ x z. acted_of (other x) names z) failure_of r p q a b e)
+  good_short y steady d =
+      on_err (λ x z. acted_of (other x) names z) failure_of fault.OutOfMemory p q a b e
+      (short_behind (acted_of y names) p q a b e e (λ z. refl) (leaves_on (λ y z. acted_of y names z) failure_of y p q a b e steady d))
+
+module _ {X : Type 0} {view : X → Coming → Meant} {r : Result X ActFault} {p q : Inlet} {a b : Port} (s : Setting) (column : ℕ) (i : Inst) (names : Spellings) where
+  -- a right side over what a store holds, whose next tag follows the last one
+  pub over_store : (x y : Stored) → x ≡ y → (tag : ℕ) → tag ≡ y.last + 1 → PerformsOn view failure_of r p q a b (λ z. acted s column i (record { wm = x.elements; last = tag - 1; names = names; coming = z }))
+      → PerformsOn view failure_of r p q a b (λ z. acted s column i (record { wm = y.elements; last = y.last; names = names; coming = z }))
+  over_store x y same tag next d =
+      let over : Stored → ℕ → Type 0 = λ x n. PerformsOn view failure_of r p q a b (λ z. acted s column i (record { wm = x.elements; last = n; names = names; coming = z })) in
+      let last : tag - 1 ≡ y.last = omega (arith, next) in
+      let P : Stored → Type 0 = λ x. over x (tag - 1) in
+      let Q : ℕ → Type 0 = λ n. over y n in
+      subst Q last (subst P same d)
+
+  -- the same over what is the same
+  pub over_same : (x y : Stored) → x ≡ y → PerformsOn view failure_of r p q a b (λ z. acted s column i (record { wm = x.elements; last = x.last; names = names; coming = z }))
+      → PerformsOn view failure_of r p q a b (λ z. acted s column i (record { wm = y.elements; last = y.last; names = names; coming = z }))
+  over_same x y same d =
+      let P : Stored → Type 0 = λ x. PerformsOn view failure_of r p q a b (λ z. acted s column i (record { wm = x.elements; last = x.last; names = names; coming = z })) in
+      subst P same d

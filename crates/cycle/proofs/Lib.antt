@@ -4,4 +4,5 @@ pub mod Members
 pub mod HeldAfter
 pub mod Marks
 pub mod Phases
+pub mod Standings
 pub mod Firings

@@ -2,3 +2,4 @@
 pub mod Settles
 pub mod Slots
 pub mod States
+pub mod Standing

@@ -2,9 +2,13 @@
 //! another.
 #![tactic(auto)]
 
+mod actor;
+mod fired;
 mod maker;
 mod slot;
 mod state;
 
+pub use actor::{Actor, InTurn};
+pub use fired::Fired;
 pub use maker::{Maker, made_over};
 pub use state::State;

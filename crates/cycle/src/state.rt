@@ -9,25 +9,30 @@ ghost use Rattle.ops_base.specs.Names.{Spellings};
 ghost use Rattle.ops_base.specs.WorkingMemory.{Lawful, done, last_after, tags_of};
 ghost use Rattle.ops_io.specs.Coming.{Coming, inlet};
 ghost use Rattle.ops_io.specs.Ports.{port, PutsBytes};
+ghost use Rattle.ops_meaning.specs.Acting.{acted};
 ghost use Rattle.ops_meaning.specs.Effects.{PerformsOn, CountsReads, failure_as};
 ghost use Rattle.ops_meaning.specs.Kept.{KeepsNames, WellKept};
 ghost use Rattle.ops_meaning.specs.Layout.{firing_bytes, rule_name};
 ghost use Rattle.ops_meaning.specs.Running.{ended_in, firing, next_to_fire, nothing_yet, phase_by};
 ghost use Rattle.work_store.specs.Settling.{IsSettled};
 ghost use Rattle.act_phase.specs.Asking.{right_side_asks};
-ghost use Rattle.act_phase.specs.Held.{HoldsProgram, HoldsElements};
-ghost use Rattle.act_phase.specs.Outcomes.{failure_of, is_unread, setting_of};
+ghost use Rattle.act_phase.specs.Held.{HoldsProgram, HoldsElements, HoldsMade};
+ghost use Rattle.act_phase.specs.Outcomes.{acted_of, failure_of, is_unread, setting_of};
 ghost use Rattle.conflict_index.specs.Applying.{marked};
-ghost use Rattle.conflict_index.specs.Indexed.{insts_of, nothing_indexed, waiting, KeepsSpecificities};
+ghost use Rattle.conflict_index.specs.Indexed.{insts_of, fired_of, nothing_indexed, waiting, KeepsSpecificities};
 ghost use Rattle.conflict_index.specs.Selecting.{IsFirst};
 ghost use Rattle.cycle.specs.Settles.{Settles};
+ghost use Rattle.cycle.specs.Standing.{after_firing, standing, with_inst, without_gone};
 ghost use Rattle.cycle.specs.States.{Agree, alone, state_course};
 
+use crate::actor::Actor;
+use crate::fired::Fired;
 use crate::slot::Slot;
-use act_phase::{ActFault, act, traces_firings};
+use act_phase::{ActFault, Acted, traces_firings};
 use conflict_index::Index;
 use ops_base::commands::Strategy;
 use ops_base::elements::Change;
+use ops_base::list::Listed;
 use ops_base::memory::OutOfMemory;
 use ops_base::programs::Program;
 use ops_base::rules::Inst;
@@ -127,6 +132,63 @@ fn settled_by<M: Matcher, H: Fn(M, &[Change]) -> Result<Settled<M>, OutOfMemory>
     })
 }
 
+/// The right side of an instantiation and its phase, by what its caller lends. The matcher is put back into its place.
+/// After a refusal the place is gone, too.
+fn acted_by<M: Matcher, A: Actor<M, I, K>, I: Source, K: Sink>(
+    alloc: Global,
+    actor: &A,
+    program: &Program,
+    names: &mut Names,
+    matcher: Slot<M>,
+    inst: &Inst,
+    watch: u8,
+    input: &mut Input,
+    source: &mut I,
+    out: &mut Out,
+    sink: &mut K,
+) -> Result<(Acted, Settled<Slot<M>>), ActFault>
+    requires able { A.able actor.now }
+    requires whole { IsTrue out.old.whole }
+    requires faults { K.faults sink.old < 2 ^ 63 }
+    requires reads { I.faults source.old < 2 ^ 63 }
+    requires tags { (M.stored matcher).last < 2 ^ 63 }
+    requires above { All (λ t. 0 < t) (tags_of (M.stored matcher).elements) }
+    ensures acts { PerformsOn (λ r c. acted_of r.0 names.new c) failure_of result
+        (inlet input.old (I.left source.old) (I.faults source.old)) (inlet input.new (I.left source.new) (I.faults source.new))
+        (port (K.taken sink.old) (K.faults sink.old) out.old) (port (K.taken sink.new) (K.faults sink.new) out.new)
+        (λ c. acted (setting_of program.now watch) out.old.column inst.now
+        (record { wm = (M.stored matcher).elements; last = (M.stored matcher).last; names = names.old; coming = c })) }
+    ensures reads { CountsReads (is_unread result) (I.faults source.old) (I.faults source.new) }
+    ensures written { is_unread result ≡ true → out.new.held ≡ [] }
+    ensures untouched { right_side_asks program.now.rules inst.now.rule ≡ false → (input.new ≡ input.old) × (source.new ≡ source.old) }
+    ensures names { KeepsNames names.old names.new }
+    ensures held { HoldsProgram names.old program.now → HoldsElements names.old (M.stored matcher).elements
+        → HoldsProgram names.new program.now × HoldsElements names.new (M.stored matcher).elements × IfOk result (λ r. HoldsMade names.new r.0.changes) }
+    ensures lawful { IfOk result (λ r. Lawful (M.stored matcher).elements (M.stored matcher).last r.0.changes) }
+    ensures elements { IfOk result (λ r. (M.stored r.1.matcher).elements ≡ done (M.stored matcher).elements r.0.changes) }
+    ensures last { IfOk result (λ r. (M.stored r.1.matcher).last ≡ last_after (M.stored matcher).last r.0.changes) }
+    ensures settled { IfOk result (λ r. IsSettled (M.found matcher) (M.found r.1.matcher) r.1.gone.items r.1.come.items) }
+    ensures stands { IfOk result (λ r. (rules : List Rule) → M.stands_for matcher rules → M.stands_for r.1.matcher rules) }
+{
+    // the matcher is looked at for what it keeps true
+    let _last = last_of(&matcher);
+    let (matcher, place) = matcher.take();
+    let (acted, settled) = actor.act(
+        alloc, program, names, matcher, inst, watch, input, source, out, sink,
+    )?;
+    let Settled {
+        matcher,
+        come,
+        gone,
+    } = settled;
+    let settled = Settled {
+        matcher: place.fill(matcher),
+        come,
+        gone,
+    };
+    Ok((acted, settled))
+}
+
 impl<M: Matcher> State<M> {
     /// These as one state.
     fn of(matcher: Slot<M>, index: Box<Index>, firings: u64) -> State<M>
@@ -222,22 +284,22 @@ impl<M: Matcher> State<M> {
         self.index.as_ref().select()
     }
 
-    /// Does changes in their order, which is one phase: the matcher settles once, and the index takes in what that
-    /// tells. After a refusal the state is gone.
-    pub fn change<H: Fn(M, &[Change]) -> Result<Settled<M>, OutOfMemory>>(
+    /// One phase, and what was found before it and is not found after it.
+    fn phase<H: Fn(M, &[Change]) -> Result<Settled<M>, OutOfMemory>>(
         self,
         hand: &H,
         program: &Program,
         changes: &[Change],
-    ) -> Result<State<M>, OutOfMemory>
+    ) -> Result<(State<M>, Listed<Inst>), OutOfMemory>
         requires settles { Settles M.stored M.found M.stands_for (λ m cs. H.pre hand.now m cs) (λ m cs r. H.post hand.now m cs r) }
         requires stands { M.stands_for self.matcher program.now.rules }
         requires specificities { KeepsSpecificities program.now.rules self.index.members }
         requires lawful { Lawful (M.stored self.matcher).elements (M.stored self.matcher).last changes.now }
-        ensures course { IfOk result (λ s. (names : Spellings) (coming : Coming) → state_course M.stored s names coming
+        ensures course { IfOk result (λ r. (names : Spellings) (coming : Coming) → state_course M.stored r.0 names coming
             ≡ phase_by (conflict_set program.now.rules) changes.now self.firings (last_after (M.stored self.matcher).last changes.now) (state_course M.stored self names coming)) }
-        ensures stands { IfOk result (λ s. M.stands_for s.matcher program.now.rules) }
-        ensures specificities { IfOk result (λ s. KeepsSpecificities program.now.rules s.index.members) }
+        ensures marks { IfOk result (λ r. fired_of r.0.index.members ≡ without_gone r.1 (fired_of self.index.members)) }
+        ensures stands { IfOk result (λ r. M.stands_for r.0.matcher program.now.rules) }
+        ensures specificities { IfOk result (λ r. KeepsSpecificities program.now.rules r.0.index.members) }
     {
         let State {
             matcher,
@@ -255,30 +317,118 @@ impl<M: Matcher> State<M> {
         index
             .as_mut()
             .apply(program, gone.as_slice(), come.as_slice())?;
-        Ok(State::of(matcher, index, firings))
+        Ok((State::of(matcher, index, firings), Listed::from_vec(gone)))
+    }
+
+    /// Does changes in their order, which is one phase: the matcher settles once, and the index takes in what that
+    /// tells. After a refusal the state is gone.
+    pub fn change<H: Fn(M, &[Change]) -> Result<Settled<M>, OutOfMemory>>(
+        self,
+        hand: &H,
+        program: &Program,
+        changes: &[Change],
+    ) -> Result<State<M>, OutOfMemory>
+        requires settles { Settles M.stored M.found M.stands_for (λ m cs. H.pre hand.now m cs) (λ m cs r. H.post hand.now m cs r) }
+        requires stands { M.stands_for self.matcher program.now.rules }
+        requires specificities { KeepsSpecificities program.now.rules self.index.members }
+        requires lawful { Lawful (M.stored self.matcher).elements (M.stored self.matcher).last changes.now }
+        ensures course { IfOk result (λ s. (names : Spellings) (coming : Coming) → state_course M.stored s names coming
+            ≡ phase_by (conflict_set program.now.rules) changes.now self.firings (last_after (M.stored self.matcher).last changes.now) (state_course M.stored self names coming)) }
+        ensures stands { IfOk result (λ s. M.stands_for s.matcher program.now.rules) }
+        ensures specificities { IfOk result (λ s. KeepsSpecificities program.now.rules s.index.members) }
+    {
+        let (state, _gone) = self.phase(hand, program, changes)?;
+        Ok(state)
     }
 
     /// This one fires: it is marked, and one firing more is counted.
     fn mark(&mut self, inst: &Inst)
         requires member { Contains (insts_of self.old.index.members) inst.now }
         requires room { self.old.firings < 2 ^ 63 }
-        ensures { self.new ≡ record self.old {
+        ensures marked { self.new ≡ record self.old {
           index = record self.old.index { members = marked inst.now self.old.index.members };
           firings = self.old.firings + 1;
         } }
+        ensures marks { fired_of self.new.index.members ≡ with_inst inst.now (fired_of self.old.index.members) }
     {
         self.index.as_mut().mark(inst);
         self.firings += 1;
     }
 
-    /// One firing: its line where firings are traced, the right side of what is next, which is marked, and then one
-    /// phase. The answer tells whether `halt` was done in it. What fires is looked up in the conflict set, and marked
-    /// where it stands. After a refusal the state is gone, and names may have come; how far the input was read is not
-    /// said.
-    pub fn fire<H: Fn(M, &[Change]) -> Result<Settled<M>, OutOfMemory>, I: Source, K: Sink>(
+    /// The right side of this instantiation, and its phase: what it did, and what was found before it and is not found
+    /// after it.
+    fn act_out<A: Actor<M, I, K>, I: Source, K: Sink>(
         self,
         alloc: Global,
-        hand: &H,
+        actor: &A,
+        program: &Program,
+        names: &mut Names,
+        inst: &Inst,
+        watch: u8,
+        input: &mut Input,
+        source: &mut I,
+        out: &mut Out,
+        sink: &mut K,
+    ) -> Result<(State<M>, Acted, Listed<Inst>), ActFault>
+        requires able { A.able actor.now }
+        requires stands { M.stands_for self.matcher program.now.rules }
+        requires specificities { KeepsSpecificities program.now.rules self.index.members }
+        requires whole { IsTrue out.old.whole }
+        requires faults { K.faults sink.old < 2 ^ 63 }
+        requires reads { I.faults source.old < 2 ^ 63 }
+        requires tags { (M.stored self.matcher).last < 2 ^ 63 }
+        ensures acts { PerformsOn (λ r c. acted_of r.1 names.new c) failure_of result
+            (inlet input.old (I.left source.old) (I.faults source.old)) (inlet input.new (I.left source.new) (I.faults source.new))
+            (port (K.taken sink.old) (K.faults sink.old) out.old) (port (K.taken sink.new) (K.faults sink.new) out.new)
+            (λ c. acted (setting_of program.now watch) out.old.column inst.now
+            (record { wm = (M.stored self.matcher).elements; last = (M.stored self.matcher).last; names = names.old; coming = c })) }
+        ensures reads { CountsReads (is_unread result) (I.faults source.old) (I.faults source.new) }
+        ensures written { is_unread result ≡ true → out.new.held ≡ [] }
+        ensures untouched { right_side_asks program.now.rules inst.now.rule ≡ false → (input.new ≡ input.old) × (source.new ≡ source.old) }
+        ensures names { KeepsNames names.old names.new }
+        ensures held { HoldsProgram names.old program.now → HoldsElements names.old (M.stored self.matcher).elements
+            → HoldsProgram names.new program.now × HoldsElements names.new (M.stored self.matcher).elements × IfOk result (λ r. HoldsMade names.new r.1.changes) }
+        ensures lawful { IfOk result (λ r. Lawful (M.stored self.matcher).elements (M.stored self.matcher).last r.1.changes) }
+        ensures course { IfOk result (λ r. (n : Spellings) (coming : Coming) → state_course M.stored r.0 n coming
+            ≡ phase_by (conflict_set program.now.rules) r.1.changes self.firings (last_after (M.stored self.matcher).last r.1.changes) (state_course M.stored self n coming)) }
+        ensures marks { IfOk result (λ r. fired_of r.0.index.members ≡ without_gone r.2 (fired_of self.index.members)) }
+        ensures stands { IfOk result (λ r. M.stands_for r.0.matcher program.now.rules) }
+        ensures specificities { IfOk result (λ r. KeepsSpecificities program.now.rules r.0.index.members) }
+    {
+        let State {
+            matcher,
+            index,
+            firings,
+        } = self;
+        let (acted, settled) = acted_by(
+            alloc, actor, program, names, matcher, inst, watch, input, source, out, sink,
+        )?;
+        let Settled {
+            matcher,
+            come: came,
+            gone: went,
+        } = settled;
+        // the matcher is looked at for what it keeps true
+        let _last = last_of(&matcher);
+        let mut index = index;
+        index
+            .as_mut()
+            .apply(program, went.as_slice(), came.as_slice())?;
+        Ok((
+            State::of(matcher, index, firings),
+            acted,
+            Listed::from_vec(went),
+        ))
+    }
+
+    /// One firing: its line where firings are traced, the right side of what is next, which is marked, and then one
+    /// phase. With the state come what fired, whether `halt` was done in it, its changes, and what is not found any
+    /// more. What fires is looked up in the conflict set, and marked where it stands. After a refusal the state is gone,
+    /// and names may have come; how far the input was read is not said.
+    pub fn fire<A: Actor<M, I, K>, I: Source, K: Sink>(
+        self,
+        alloc: Global,
+        actor: &A,
         program: &Program,
         names: &mut Names,
         watch: u8,
@@ -286,8 +436,8 @@ impl<M: Matcher> State<M> {
         source: &mut I,
         out: &mut Out,
         sink: &mut K,
-    ) -> Result<(State<M>, bool), ActFault>
-        requires settles { Settles M.stored M.found M.stands_for (λ m cs. H.pre hand.now m cs) (λ m cs r. H.post hand.now m cs r) }
+    ) -> Result<(State<M>, Fired), ActFault>
+        requires able { A.able actor.now }
         requires stands { M.stands_for self.matcher program.now.rules }
         requires specificities { KeepsSpecificities program.now.rules self.index.members }
         requires whole { IsTrue out.old.whole }
@@ -297,7 +447,7 @@ impl<M: Matcher> State<M> {
         requires tags { (M.stored self.matcher).last < 2 ^ 63 }
         requires next { IsSome (next_to_fire program.now.rules (alone M.stored self)) }
         ensures performs { (i : Inst) → next_to_fire program.now.rules (alone M.stored self) ≡ Some i
-            → PerformsOn (λ r c. record { course = state_course M.stored r.0 names.new c; halted = r.1 })
+            → PerformsOn (λ r c. record { course = state_course M.stored r.0 names.new c; halted = r.1.halted })
             (λ f. failure_as (ended_in (self.firings + 1) i.rule (rule_name program.now.rules i.rule)) (failure_of f)) result
             (inlet input.old (I.left source.old) (I.faults source.old))
             (inlet input.new (I.left source.new) (I.faults source.new))
@@ -319,29 +469,31 @@ impl<M: Matcher> State<M> {
             × IfOk result (λ r. HoldsElements names.new (M.stored r.0.matcher).elements) }
         ensures stands { IfOk result (λ r. M.stands_for r.0.matcher program.now.rules) }
         ensures specificities { IfOk result (λ r. KeepsSpecificities program.now.rules r.0.index.members) }
+
+        // What fired was next. Its changes can be done in turn to the working memory before it, and with what is gone
+        // they give the working memory, the marks and the last tag after it.
+        ensures inst { IfOk result (λ r. next_to_fire program.now.rules (alone M.stored self) ≡ Some r.1.inst) }
+        ensures lawful { IfOk result (λ r. Lawful (M.stored self.matcher).elements (M.stored self.matcher).last r.1.changes) }
+        ensures leaves { IfOk result (λ r. standing M.stored r.0 ≡ after_firing r.1 (standing M.stored self)) }
     {
         let mut state = self;
         // whoever asked for a firing has looked for what is next, and it is looked up here once more
         let inst = copy_of(alloc, state.next())?;
         let firing = state.firings() + 1;
         put_trace(out, sink, names, program, watch, firing, &inst)?;
-        let tag = state.last_tag() + 1;
-        let acted = act(
-            alloc,
-            program,
-            names,
-            state.store(),
-            &inst,
-            tag,
-            watch,
-            input,
-            source,
-            out,
-            sink,
-        )?;
+        // the state is looked at for what it keeps true
+        let _last = state.last_tag();
         state.mark(&inst);
-        let state = state.change(hand, program, acted.changes.as_slice())?;
-        Ok((state, acted.halted))
+        let (state, acted, gone) = state.act_out(
+            alloc, actor, program, names, &inst, watch, input, source, out, sink,
+        )?;
+        let fired = Fired {
+            inst,
+            halted: acted.halted,
+            changes: acted.changes,
+            gone,
+        };
+        Ok((state, fired))
     }
 
     /// The conflict set and its marks stay. Those that have not fired are copied into another order, which costs their

@@ -1,3 +1,3 @@
 pub mod Numbers
 pub mod Valid
-mod Placed
+pub mod Placed

@@ -7,4 +7,4 @@ mod renewing;
 
 pub use live::{Live, rule_named, without_any};
 pub use moved::Moved;
-pub use renewing::renew;
+pub use renewing::{fed, renew};

@@ -20,8 +20,14 @@ use ops_base::rules::Inst;
 use std::alloc::Global;
 use work_store::{Matcher, Settled, Store};
 
-/// The changes that make a working memory anew, with the last tag that was given. Copies all elements.
-fn fed(alloc: Global, store: &Store, classes: usize, last: u64) -> Result<Vec<Change>, OutOfMemory>
+/// The changes that make a working memory anew, with the last tag that was given, where a program has this many classes.
+/// Copies all elements.
+pub fn fed(
+    alloc: Global,
+    store: &Store,
+    classes: usize,
+    last: u64,
+) -> Result<Vec<Change>, OutOfMemory>
     ensures { IfOk result (λ v. v.items ≡ fed_again classes store.now.elements last) }
 {
     let mut changes = Vec::new(alloc);

@@ -11,7 +11,7 @@ ghost use Rattle.why_lines.specs.Explained.{explained_if};
 
 use crate::closing::put_closing;
 use crate::engines::Plan;
-use cycle::Maker;
+use cycle::{Actor, Maker};
 use live_rules::Live;
 use ops_base::elements::Change;
 use ops_base::endings::Ending;
@@ -20,10 +20,17 @@ use ops_base::programs::Program;
 use ops_base::symbols::Names;
 use ops_io::{Input, Out, Sink, Source, Stop};
 use ops_meaning::Status;
-use session::run_session;
+use session::{SessionContext, run_session};
 use std::alloc::Global;
 use std::mem;
 use work_store::Settled;
+
+/// What settles the matchers of a session, and what does its right sides.
+#[derive(Clone, Copy)]
+pub(crate) struct Hands<'a, H, A> {
+    pub(crate) settle: &'a H,
+    pub(crate) actor: &'a A,
+}
 
 fn status_of(ending: Ending) -> Status
     ensures { result ≡ status_of ending }
@@ -54,11 +61,12 @@ fn status_of(ending: Ending) -> Status
 fn answer_live<
     B: Maker,
     H: Fn(B::M, &[Change]) -> Result<Settled<B::M>, OutOfMemory>,
+    A: Actor<B::M, I, K>,
     I: Source,
     K: Sink,
 >(
     alloc: Global,
-    hand: &H,
+    hands: &Hands<'_, H, A>,
     live: &mut Live,
     names: &mut Names,
     maker: &B,
@@ -66,7 +74,8 @@ fn answer_live<
     source: &mut I,
     sink: &mut K,
 ) -> Result<Status, Stop>
-    requires settles { Settles B.M.stored B.M.found B.M.stands_for (λ m cs. H.pre hand.now m cs) (λ m cs r. H.post hand.now m cs r) }
+    requires settles { Settles B.M.stored B.M.found B.M.stands_for (λ m cs. H.pre hands.now.settle.now m cs) (λ m cs r. H.post hands.now.settle.now m cs r) }
+    requires able { A.able hands.now.actor.now }
     requires faults { K.faults sink.old < 2 ^ 63 }
     requires reads { I.faults source.old < 2 ^ 63 }
     requires some { 0 < length names.old.held }
@@ -81,21 +90,15 @@ fn answer_live<
 {
     let mut input = Input::new(alloc)?;
     let mut out = Out::new(alloc)?;
-    let limit = plan.options.limit;
-    let is_explained = plan.is_explained;
-    let ending = run_session(
+    let context = SessionContext {
         alloc,
-        hand,
-        live,
-        names,
         maker,
-        limit,
-        is_explained,
-        &mut input,
-        source,
-        &mut out,
-        sink,
-    )?;
+        settle: hands.settle,
+        actor: hands.actor,
+        limit: plan.options.limit,
+        is_explained: plan.is_explained,
+    };
+    let ending = run_session(&context, live, names, &mut input, source, &mut out, sink)?;
     put_closing(alloc, names, &ending, plan.is_summed, &mut out, sink)?;
     out.flush(sink)?;
     Ok(status_of(ending))
@@ -107,11 +110,12 @@ fn answer_live<
 pub(crate) fn answer_over<
     B: Maker,
     H: Fn(B::M, &[Change]) -> Result<Settled<B::M>, OutOfMemory>,
+    A: Actor<B::M, I, K>,
     I: Source,
     K: Sink,
 >(
     alloc: Global,
-    hand: &H,
+    hands: &Hands<'_, H, A>,
     program: Program,
     names: &mut Names,
     maker: &B,
@@ -119,7 +123,8 @@ pub(crate) fn answer_over<
     source: &mut I,
     sink: &mut K,
 ) -> Result<Status, Stop>
-    requires settles { Settles B.M.stored B.M.found B.M.stands_for (λ m cs. H.pre hand.now m cs) (λ m cs r. H.post hand.now m cs r) }
+    requires settles { Settles B.M.stored B.M.found B.M.stands_for (λ m cs. H.pre hands.now.settle.now m cs) (λ m cs r. H.post hands.now.settle.now m cs r) }
+    requires able { A.able hands.now.actor.now }
     requires faults { K.faults sink.old < 2 ^ 63 }
     requires reads { I.faults source.old < 2 ^ 63 }
     requires some { 0 < length names.old.held }
@@ -133,7 +138,7 @@ pub(crate) fn answer_over<
         (devices (I.left source.new) (I.faults source.new) (K.taken sink.new) (K.faults sink.new)) }
 {
     let mut live = Live::new(alloc, program);
-    let answered = answer_live(alloc, hand, &mut live, names, maker, plan, source, sink);
+    let answered = answer_live(alloc, hands, &mut live, names, maker, plan, source, sink);
     mem::forget(live);
     answered
 }

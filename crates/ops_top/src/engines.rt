@@ -8,15 +8,16 @@ ghost use Rattle.ops_meaning.specs.Running.{session_of};
 ghost use Rattle.act_phase.specs.Asking.{session_asks};
 ghost use Rattle.act_phase.specs.Outcomes.{setting_of};
 ghost use Rattle.work_store.specs.Settling.{IsSettled};
+ghost use Rattle.cycle.specs.Settles.{Settles};
 ghost use Rattle.net_base.specs.Network.{NetOf};
 ghost use Rattle.step_core.specs.Found.{found_over};
 ghost use Rattle.ops_top.specs.Whole.{may_wait, told};
 ghost use Rattle.ops_top.specs.Answered.{IsAnswered, devices};
 ghost use Rattle.why_lines.specs.Explained.{explained_if};
 
-use crate::answer::answer_over;
+use crate::answer::{Hands, answer_over};
 use crate::makers::{DirectMaker, FreeMaker, RoundsMaker, SerialMaker, StealMaker};
-use cycle::Maker;
+use cycle::{InTurn, Maker};
 use free_engine::FreeEngine;
 use ops_base::elements::Change;
 use ops_base::memory::OutOfMemory;
@@ -40,6 +41,45 @@ pub(crate) struct Plan {
     pub(crate) is_explained: bool,
     /// Whether it is summed up at its end.
     pub(crate) is_summed: bool,
+}
+
+/// The answer to a program whose session runs over the matchers of this maker, which this closure settles after each
+/// right side.
+fn answer_by<
+    M: Matcher,
+    B: Maker<M = M>,
+    H: Fn(M, &[Change]) -> Result<Settled<M>, OutOfMemory>,
+    I: Source,
+    K: Sink,
+>(
+    alloc: Global,
+    settle: &H,
+    program: Program,
+    names: &mut Names,
+    maker: &B,
+    plan: Plan,
+    source: &mut I,
+    sink: &mut K,
+) -> Result<Status, Stop>
+    requires settles { Settles M.stored M.found M.stands_for (λ m cs. H.pre settle.now m cs) (λ m cs r. H.post settle.now m cs r) }
+    requires faults { K.faults sink.old < 2 ^ 63 }
+    requires reads { I.faults source.old < 2 ^ 63 }
+    requires some { 0 < length names.old.held }
+    requires held { IsTrue (is_held (length names.old.held) program.classes program.rules program.templates program.commands) }
+    ensures { IsAnswered result
+        (λ coming. told plan.is_summed names.old
+        (explained_if plan.is_explained program.classes
+        (session_of (setting_of program 0) plan.options.limit program.commands names.old coming)))
+        (session_asks program.rules program.commands) (source.new ≡ source.old)
+        (devices (I.left source.old) (I.faults source.old) (K.taken sink.old) (K.faults sink.old))
+        (devices (I.left source.new) (I.faults source.new) (K.taken sink.new) (K.faults sink.new)) }
+{
+    let actor = InTurn::new(settle);
+    let hands = Hands {
+        settle,
+        actor: &actor,
+    };
+    answer_over(alloc, &hands, program, names, maker, plan, source, sink)
 }
 
 /// The answer to a program whose session runs over matchers that settle on the calling thread alone.
@@ -71,7 +111,7 @@ fn answer_alone<M: Matcher<Hand = ()>, B: Maker<M = M>, I: Source, K: Sink>(
         ensures settled { IfOk result (λ s. IsSettled (M.found matcher) (M.found s.matcher) s.gone.items s.come.items) }
         ensures stands { IfOk result (λ s. (rules : List Rule) → M.stands_for matcher rules → M.stands_for s.matcher rules) }
     { matcher.settle(alloc, &mut (), changes) };
-    answer_over(alloc, &hand, program, names, maker, plan, source, sink)
+    answer_by(alloc, &hand, program, names, maker, plan, source, sink)
 }
 
 /// The answer to a program whose session runs over the engine of rounds, which shares its rounds among threads.
@@ -113,7 +153,7 @@ fn answer_in_rounds<R: Threads + Sync, I: Source, K: Sink, G: Gate + Copy>(
         ensures settled { IfOk result (λ s. IsSettled (found_over rounds.net.alphas rounds.net.nodes rounds.store.elements) (found_over s.matcher.net.alphas s.matcher.net.nodes s.matcher.store.elements) s.gone.items s.come.items) }
         ensures stands { IfOk result (λ s. (rules : List Rule) → NetOf rounds.net rules → NetOf s.matcher.net rules) }
     { rounds.settle_in_rounds(rt, alloc, changes) };
-    answer_over(alloc, &hand, program, names, &maker, plan, source, sink)
+    answer_by(alloc, &hand, program, names, &maker, plan, source, sink)
 }
 
 /// The answer to a program whose session runs over the engine of free workers, which wait for each other.
@@ -155,7 +195,7 @@ fn answer_freely<R: Threads + Wait + Sync, I: Source, K: Sink, G: Gate + Copy>(
         ensures settled { IfOk result (λ s. IsSettled (found_over free.net.alphas free.net.nodes free.store.elements) (found_over s.matcher.net.alphas s.matcher.net.nodes s.matcher.store.elements) s.gone.items s.come.items) }
         ensures stands { IfOk result (λ s. (rules : List Rule) → NetOf free.net rules → NetOf s.matcher.net rules) }
     { free.settle_freely(rt, alloc, changes) };
-    answer_over(alloc, &hand, program, names, &maker, plan, source, sink)
+    answer_by(alloc, &hand, program, names, &maker, plan, source, sink)
 }
 
 /// The answer to a program whose session runs over the stealing engine, whose workers wait for each other.
@@ -197,7 +237,7 @@ fn answer_by_stealing<R: Threads + Wait + Sync, I: Source, K: Sink, G: Gate + Co
         ensures settled { IfOk result (λ s. IsSettled (found_over steal.net.alphas steal.net.nodes steal.store.elements) (found_over s.matcher.net.alphas s.matcher.net.nodes s.matcher.store.elements) s.gone.items s.come.items) }
         ensures stands { IfOk result (λ s. (rules : List Rule) → NetOf steal.net rules → NetOf s.matcher.net rules) }
     { steal.settle_shared(rt, alloc, changes) };
-    answer_over(alloc, &hand, program, names, &maker, plan, source, sink)
+    answer_by(alloc, &hand, program, names, &maker, plan, source, sink)
 }
 
 /// The answer to a program whose session runs over the engine that the plan asks for, which waits for no turn of another

@@ -24,7 +24,7 @@ use crate::ready::{make_ready, settle_pending};
 use crate::runs::run;
 use crate::session::{Session, start};
 use crate::settings::{give_level, give_strategy};
-use cycle::Maker;
+use cycle::{Actor, Maker};
 use live_rules::Live;
 use ops_base::commands::Command;
 use ops_base::elements::Change;
@@ -35,8 +35,14 @@ use ops_io::{Input, Out, Sink, Source};
 use work_store::{Matcher, Settled};
 
 /// The command `run`.
-fn run_from<M: Matcher, H: Fn(M, &[Change]) -> Result<Settled<M>, OutOfMemory>, I: Source, K: Sink>(
-    context: &RunContext<'_, H>,
+fn run_from<
+    M: Matcher,
+    H: Fn(M, &[Change]) -> Result<Settled<M>, OutOfMemory>,
+    A: Actor<M, I, K>,
+    I: Source,
+    K: Sink,
+>(
+    context: &RunContext<'_, H, A>,
     names: &mut Names,
     session: Session<M>,
     count: Option<u64>,
@@ -46,6 +52,7 @@ fn run_from<M: Matcher, H: Fn(M, &[Change]) -> Result<Settled<M>, OutOfMemory>, 
     sink: &mut K,
 ) -> Result<Session<M>, Ending>
     requires settles { Settles M.stored M.found M.stands_for (λ m cs. H.pre context.now.settle.now m cs) (λ m cs r. H.post context.now.settle.now m cs r) }
+    requires able { A.able context.now.actor.now }
     requires under_way { IsUnderWay M.stored M.stands_for context.now.program.now.rules session }
     requires none_waits { session.pending ≡ [] }
     requires current { session.moved ≡ None }
@@ -78,10 +85,11 @@ fn run_from<M: Matcher, H: Fn(M, &[Change]) -> Result<Settled<M>, OutOfMemory>, 
 fn do_in_force<
     M: Matcher,
     H: Fn(M, &[Change]) -> Result<Settled<M>, OutOfMemory>,
+    A: Actor<M, I, K>,
     I: Source,
     K: Sink,
 >(
-    context: &RunContext<'_, H>,
+    context: &RunContext<'_, H, A>,
     names: &mut Names,
     session: Session<M>,
     command: &Command,
@@ -91,6 +99,7 @@ fn do_in_force<
     sink: &mut K,
 ) -> Result<Session<M>, Ending>
     requires settles { Settles M.stored M.found M.stands_for (λ m cs. H.pre context.now.settle.now m cs) (λ m cs r. H.post context.now.settle.now m cs r) }
+    requires able { A.able context.now.actor.now }
     requires under_way { IsUnderWay M.stored M.stands_for context.now.program.now.rules session }
     requires ready { IsReadyFor command.now session }
     requires plain { changes_productions command.now ≡ false }
@@ -153,10 +162,11 @@ fn do_in_force<
 fn do_at_once<
     B: Maker,
     H: Fn(B::M, &[Change]) -> Result<Settled<B::M>, OutOfMemory>,
+    A: Actor<B::M, I, K>,
     I: Source,
     K: Sink,
 >(
-    context: &RunContext<'_, H>,
+    context: &RunContext<'_, H, A>,
     maker: &B,
     names: &mut Names,
     session: Session<B::M>,
@@ -167,6 +177,7 @@ fn do_at_once<
     sink: &mut K,
 ) -> Result<Session<B::M>, Ending>
     requires settles { Settles B.M.stored B.M.found B.M.stands_for (λ m cs. H.pre context.now.settle.now m cs) (λ m cs r. H.post context.now.settle.now m cs r) }
+    requires able { A.able context.now.actor.now }
     requires under_way { IsUnderWay B.M.stored B.M.stands_for context.now.program.now.rules session }
     requires plain { changes_productions command.now ≡ false }
     requires whole { IsTrue out.old.whole }
@@ -193,10 +204,11 @@ fn do_at_once<
 fn do_command<
     B: Maker,
     H: Fn(B::M, &[Change]) -> Result<Settled<B::M>, OutOfMemory>,
+    A: Actor<B::M, I, K>,
     I: Source,
     K: Sink,
 >(
-    context: &SessionContext<'_, B, H>,
+    context: &SessionContext<'_, B, H, A>,
     live: &mut Live,
     names: &mut Names,
     session: Session<B::M>,
@@ -207,6 +219,7 @@ fn do_command<
     sink: &mut K,
 ) -> Result<Session<B::M>, Ending>
     requires settles { Settles B.M.stored B.M.found B.M.stands_for (λ m cs. H.pre context.now.settle.now m cs) (λ m cs r. H.post context.now.settle.now m cs r) }
+    requires able { A.able context.now.actor.now }
     requires under_way { IsUnderWay B.M.stored B.M.stands_for live.old.program.rules session }
     requires valid { IsTrue (command_is_valid live.old.program.classes (length live.old.program.text) command) }
     requires builds { IsTrue (command_builds_from (length live.old.program.templates) command) }
@@ -239,6 +252,7 @@ fn do_command<
             let context = RunContext {
                 alloc,
                 settle: context.settle,
+                actor: context.actor,
                 program: &live.program,
                 limit: context.limit,
             };
@@ -266,10 +280,11 @@ fn is_exit(command: &Command) -> bool
 fn do_each<
     B: Maker,
     H: Fn(B::M, &[Change]) -> Result<Settled<B::M>, OutOfMemory>,
+    A: Actor<B::M, I, K>,
     I: Source,
     K: Sink,
 >(
-    context: &SessionContext<'_, B, H>,
+    context: &SessionContext<'_, B, H, A>,
     live: &mut Live,
     names: &mut Names,
     session: Session<B::M>,
@@ -280,6 +295,7 @@ fn do_each<
     sink: &mut K,
 ) -> Result<Session<B::M>, Ending>
     requires settles { Settles B.M.stored B.M.found B.M.stands_for (λ m cs. H.pre context.now.settle.now m cs) (λ m cs r. H.post context.now.settle.now m cs r) }
+    requires able { A.able context.now.actor.now }
     requires under_way { IsUnderWay B.M.stored B.M.stands_for live.old.program.rules session }
     requires valid { IsTrue (list_all (command_is_valid live.old.program.classes (length live.old.program.text)) commands.items) }
     requires builds { IsTrue (list_all (command_builds_from (length live.old.program.templates)) commands.items) }
@@ -318,10 +334,11 @@ fn do_each<
 pub(crate) fn do_commands<
     B: Maker,
     H: Fn(B::M, &[Change]) -> Result<Settled<B::M>, OutOfMemory>,
+    A: Actor<B::M, I, K>,
     I: Source,
     K: Sink,
 >(
-    context: &SessionContext<'_, B, H>,
+    context: &SessionContext<'_, B, H, A>,
     live: &mut Live,
     names: &mut Names,
     input: &mut Input,
@@ -330,6 +347,7 @@ pub(crate) fn do_commands<
     sink: &mut K,
 ) -> Result<Session<B::M>, Ending>
     requires settles { Settles B.M.stored B.M.found B.M.stands_for (λ m cs. H.pre context.now.settle.now m cs) (λ m cs r. H.post context.now.settle.now m cs r) }
+    requires able { A.able context.now.actor.now }
     requires whole { IsTrue out.old.whole }
     requires faults { K.faults sink.old < 2 ^ 63 }
     requires reads { I.faults source.old < 2 ^ 63 }
@@ -359,6 +377,7 @@ pub(crate) fn do_commands<
     let context = RunContext {
         alloc: context.alloc,
         settle: context.settle,
+        actor: context.actor,
         program: &live.program,
         limit: context.limit,
     };

@@ -6,22 +6,28 @@ use std::alloc::Global;
 
 /// What the commands of a session share, and none of them changes.
 #[derive(Clone, Copy)]
-pub(crate) struct SessionContext<'a, B, H> {
-    pub(crate) alloc: Global,
+pub struct SessionContext<'a, B, H, A> {
+    pub alloc: Global,
     /// Makes a matcher for a program.
-    pub(crate) maker: &'a B,
+    pub maker: &'a B,
     /// Settles the matcher.
-    pub(crate) settle: &'a H,
+    pub settle: &'a H,
+    /// Does right sides, and settles the matcher by their changes.
+    pub actor: &'a A,
     /// The session makes at most this many firings.
-    pub(crate) limit: u64,
+    pub limit: u64,
+    /// Whether its productions are explained at its end.
+    pub is_explained: bool,
 }
 
 /// What a command has that changes no production.
 #[derive(Clone, Copy)]
-pub(crate) struct RunContext<'a, H> {
+pub(crate) struct RunContext<'a, H, A> {
     pub(crate) alloc: Global,
     /// Settles the matcher.
     pub(crate) settle: &'a H,
+    /// Does right sides, and settles the matcher by their changes.
+    pub(crate) actor: &'a A,
     /// The program in force.
     pub(crate) program: &'a Program,
     /// The session makes at most this many firings.

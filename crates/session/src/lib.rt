@@ -24,5 +24,6 @@ mod settings;
 mod traces;
 mod whole;
 
+pub use context::SessionContext;
 pub use ops_base::endings::Ending;
 pub use whole::run_session;

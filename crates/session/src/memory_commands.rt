@@ -44,8 +44,8 @@ fn next_tag(last: u64) -> Result<u64, OutOfMemory>
 }
 
 /// Does changes in their order, which is one phase.
-fn change<M: Matcher, H: Fn(M, &[Change]) -> Result<Settled<M>, OutOfMemory>>(
-    context: &RunContext<'_, H>,
+fn change<M: Matcher, H: Fn(M, &[Change]) -> Result<Settled<M>, OutOfMemory>, A>(
+    context: &RunContext<'_, H, A>,
     session: Session<M>,
     changes: &[Change],
 ) -> Result<Session<M>, OutOfMemory>
@@ -71,8 +71,8 @@ fn change<M: Matcher, H: Fn(M, &[Change]) -> Result<Settled<M>, OutOfMemory>>(
 }
 
 /// One phase, whose changes are printed first where elements are traced.
-fn phase<M: Matcher, H: Fn(M, &[Change]) -> Result<Settled<M>, OutOfMemory>, K: Sink>(
-    context: &RunContext<'_, H>,
+fn phase<M: Matcher, H: Fn(M, &[Change]) -> Result<Settled<M>, OutOfMemory>, A, K: Sink>(
+    context: &RunContext<'_, H, A>,
     names: &Names,
     session: Session<M>,
     changes: &[Change],
@@ -116,8 +116,8 @@ fn add_pending<M: Matcher>(session: Session<M>, made: Element) -> Result<Session
 
 /// Makes an element, which is one phase. Where no run was begun it waits. Where elements are traced its line is printed
 /// at once.
-fn make_one<M: Matcher, H: Fn(M, &[Change]) -> Result<Settled<M>, OutOfMemory>, K: Sink>(
-    context: &RunContext<'_, H>,
+fn make_one<M: Matcher, H: Fn(M, &[Change]) -> Result<Settled<M>, OutOfMemory>, A, K: Sink>(
+    context: &RunContext<'_, H, A>,
     names: &Names,
     session: Session<M>,
     class: usize,
@@ -151,9 +151,10 @@ fn make_one<M: Matcher, H: Fn(M, &[Change]) -> Result<Settled<M>, OutOfMemory>, 
 pub(crate) fn make_at_top<
     M: Matcher,
     H: Fn(M, &[Change]) -> Result<Settled<M>, OutOfMemory>,
+    A,
     K: Sink,
 >(
-    context: &RunContext<'_, H>,
+    context: &RunContext<'_, H, A>,
     names: &Names,
     session: Session<M>,
     class: usize,
@@ -221,8 +222,13 @@ fn all_removals(alloc: Global, store: &Store) -> Result<Listed<Change>, OutOfMem
 }
 
 /// The command `remove` with tags: removes their elements, which is one phase.
-pub(crate) fn remove<M: Matcher, H: Fn(M, &[Change]) -> Result<Settled<M>, OutOfMemory>, K: Sink>(
-    context: &RunContext<'_, H>,
+pub(crate) fn remove<
+    M: Matcher,
+    H: Fn(M, &[Change]) -> Result<Settled<M>, OutOfMemory>,
+    A,
+    K: Sink,
+>(
+    context: &RunContext<'_, H, A>,
     names: &Names,
     session: Session<M>,
     tags: &Listed<u64>,
@@ -248,9 +254,10 @@ pub(crate) fn remove<M: Matcher, H: Fn(M, &[Change]) -> Result<Settled<M>, OutOf
 pub(crate) fn remove_all<
     M: Matcher,
     H: Fn(M, &[Change]) -> Result<Settled<M>, OutOfMemory>,
+    A,
     K: Sink,
 >(
-    context: &RunContext<'_, H>,
+    context: &RunContext<'_, H, A>,
     names: &Names,
     session: Session<M>,
     out: &mut Out,

@@ -16,8 +16,8 @@ use ops_base::memory::OutOfMemory;
 use work_store::{Matcher, Settled};
 
 /// The state follows the productions in force.
-fn follow<B: Maker, H: Fn(B::M, &[Change]) -> Result<Settled<B::M>, OutOfMemory>>(
-    context: &RunContext<'_, H>,
+fn follow<B: Maker, H: Fn(B::M, &[Change]) -> Result<Settled<B::M>, OutOfMemory>, A>(
+    context: &RunContext<'_, H, A>,
     maker: &B,
     session: Session<B::M>,
 ) -> Result<Session<B::M>, OutOfMemory>
@@ -69,8 +69,8 @@ fn follow<B: Maker, H: Fn(B::M, &[Change]) -> Result<Settled<B::M>, OutOfMemory>
 }
 
 /// The state follows the productions in force, and nothing waits.
-fn settle_all<B: Maker, H: Fn(B::M, &[Change]) -> Result<Settled<B::M>, OutOfMemory>>(
-    context: &RunContext<'_, H>,
+fn settle_all<B: Maker, H: Fn(B::M, &[Change]) -> Result<Settled<B::M>, OutOfMemory>, A>(
+    context: &RunContext<'_, H, A>,
     maker: &B,
     session: Session<B::M>,
 ) -> Result<Session<B::M>, OutOfMemory>
@@ -91,8 +91,9 @@ fn settle_all<B: Maker, H: Fn(B::M, &[Change]) -> Result<Settled<B::M>, OutOfMem
 pub(crate) fn settle_pending<
     B: Maker,
     H: Fn(B::M, &[Change]) -> Result<Settled<B::M>, OutOfMemory>,
+    A,
 >(
-    context: &RunContext<'_, H>,
+    context: &RunContext<'_, H, A>,
     maker: &B,
     session: Session<B::M>,
 ) -> Result<Session<B::M>, OutOfMemory>
@@ -111,8 +112,8 @@ pub(crate) fn settle_pending<
 
 /// Once a run was begun, the state follows the productions in force. Before that makes wait; where many do, their phases
 /// are made.
-fn make_room<B: Maker, H: Fn(B::M, &[Change]) -> Result<Settled<B::M>, OutOfMemory>>(
-    context: &RunContext<'_, H>,
+fn make_room<B: Maker, H: Fn(B::M, &[Change]) -> Result<Settled<B::M>, OutOfMemory>, A>(
+    context: &RunContext<'_, H, A>,
     maker: &B,
     session: Session<B::M>,
 ) -> Result<Session<B::M>, OutOfMemory>
@@ -134,8 +135,8 @@ fn make_room<B: Maker, H: Fn(B::M, &[Change]) -> Result<Settled<B::M>, OutOfMemo
 
 /// Makes a session ready for a command. Commands that change productions make nothing ready: so the state follows many
 /// of them at once, when something looks at it.
-pub(crate) fn make_ready<B: Maker, H: Fn(B::M, &[Change]) -> Result<Settled<B::M>, OutOfMemory>>(
-    context: &RunContext<'_, H>,
+pub(crate) fn make_ready<B: Maker, H: Fn(B::M, &[Change]) -> Result<Settled<B::M>, OutOfMemory>, A>(
+    context: &RunContext<'_, H, A>,
     maker: &B,
     session: Session<B::M>,
     command: &Command,

@@ -19,6 +19,7 @@ use crate::bounds::UNREACHED;
 use crate::context::RunContext;
 use crate::session::Session;
 use act_phase::ActFault;
+use cycle::Actor;
 use ops_base::elements::Change;
 use ops_base::endings::Ending;
 use ops_base::memory::OutOfMemory;
@@ -48,8 +49,14 @@ fn ending_of_fault(firing: u64, rule: usize, name: Sym, fault: ActFault) -> Endi
 }
 
 /// The firing of the dominant instantiation, which is of this production.
-fn fire<M: Matcher, H: Fn(M, &[Change]) -> Result<Settled<M>, OutOfMemory>, I: Source, K: Sink>(
-    context: &RunContext<'_, H>,
+fn fire<
+    M: Matcher,
+    H: Fn(M, &[Change]) -> Result<Settled<M>, OutOfMemory>,
+    A: Actor<M, I, K>,
+    I: Source,
+    K: Sink,
+>(
+    context: &RunContext<'_, H, A>,
     names: &mut Names,
     session: Session<M>,
     rule: usize,
@@ -59,6 +66,7 @@ fn fire<M: Matcher, H: Fn(M, &[Change]) -> Result<Settled<M>, OutOfMemory>, I: S
     sink: &mut K,
 ) -> Result<(Session<M>, bool), Ending>
     requires settles { Settles M.stored M.found M.stands_for (λ m cs. H.pre context.now.settle.now m cs) (λ m cs r. H.post context.now.settle.now m cs r) }
+    requires able { A.able context.now.actor.now }
     requires whole { IsTrue out.old.whole }
     requires faults { K.faults sink.old < 2 ^ 63 }
     requires reads { I.faults source.old < 2 ^ 63 }
@@ -84,7 +92,7 @@ fn fire<M: Matcher, H: Fn(M, &[Change]) -> Result<Settled<M>, OutOfMemory>, I: S
     }
     match session.state.fire(
         context.alloc,
-        context.settle,
+        context.actor,
         context.program,
         names,
         session.watch,
@@ -93,7 +101,7 @@ fn fire<M: Matcher, H: Fn(M, &[Change]) -> Result<Settled<M>, OutOfMemory>, I: S
         out,
         sink,
     ) {
-        Ok((state, halted)) => Ok((Session { state, ..session }, halted)),
+        Ok((state, fired)) => Ok((Session { state, ..session }, fired.halted)),
         Err(fault) => {
             let name = rule_name(context.program.rules.as_slice(), rule);
             Err(ending_of_fault(firings + 1, rule, name, fault))
@@ -208,10 +216,11 @@ fn show<K: Sink>(out: &mut Out, sink: &mut K) -> Result<(), WriteFailed>
 pub(crate) fn run<
     M: Matcher,
     H: Fn(M, &[Change]) -> Result<Settled<M>, OutOfMemory>,
+    A: Actor<M, I, K>,
     I: Source,
     K: Sink,
 >(
-    context: &RunContext<'_, H>,
+    context: &RunContext<'_, H, A>,
     names: &mut Names,
     session: Session<M>,
     count: Option<u64>,
@@ -221,6 +230,7 @@ pub(crate) fn run<
     sink: &mut K,
 ) -> Result<Session<M>, Ending>
     requires settles { Settles M.stored M.found M.stands_for (λ m cs. H.pre context.now.settle.now m cs) (λ m cs r. H.post context.now.settle.now m cs r) }
+    requires able { A.able context.now.actor.now }
     requires whole { IsTrue out.old.whole }
     requires faults { K.faults sink.old < 2 ^ 63 }
     requires reads { I.faults source.old < 2 ^ 63 }

@@ -75,8 +75,8 @@ pub(crate) fn start<M: Matcher>(
 }
 
 /// Makes the phases that wait, as one.
-pub(crate) fn make_pending<M: Matcher, H: Fn(M, &[Change]) -> Result<Settled<M>, OutOfMemory>>(
-    context: &RunContext<'_, H>,
+pub(crate) fn make_pending<M: Matcher, H: Fn(M, &[Change]) -> Result<Settled<M>, OutOfMemory>, A>(
+    context: &RunContext<'_, H, A>,
     session: Session<M>,
 ) -> Result<Session<M>, OutOfMemory>
     requires settles { Settles M.stored M.found M.stands_for (λ m cs. H.pre context.now.settle.now m cs) (λ m cs r. H.post context.now.settle.now m cs r) }

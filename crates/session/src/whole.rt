@@ -17,7 +17,7 @@ ghost use Rattle.why_lines.specs.Explained.{explained_if, explains};
 use crate::commands::do_commands;
 use crate::context::SessionContext;
 use crate::session::Session;
-use cycle::Maker;
+use cycle::{Actor, Maker};
 use live_rules::Live;
 use ops_base::elements::Change;
 use ops_base::endings::Ending;
@@ -82,11 +82,11 @@ fn put_explanations<M: Matcher, K: Sink>(
 fn do_all<
     B: Maker,
     H: Fn(B::M, &[Change]) -> Result<Settled<B::M>, OutOfMemory>,
+    A: Actor<B::M, I, K>,
     I: Source,
     K: Sink,
 >(
-    context: &SessionContext<'_, B, H>,
-    is_explained: bool,
+    context: &SessionContext<'_, B, H, A>,
     live: &mut Live,
     names: &mut Names,
     input: &mut Input,
@@ -95,6 +95,7 @@ fn do_all<
     sink: &mut K,
 ) -> Result<Session<B::M>, Ending>
     requires settles { Settles B.M.stored B.M.found B.M.stands_for (λ m cs. H.pre context.now.settle.now m cs) (λ m cs r. H.post context.now.settle.now m cs r) }
+    requires able { A.able context.now.actor.now }
     requires whole { IsTrue out.old.whole }
     requires faults { K.faults sink.old < 2 ^ 63 }
     requires reads { I.faults source.old < 2 ^ 63 }
@@ -104,7 +105,7 @@ fn do_all<
         (inlet input.new (I.left source.new) (I.faults source.new))
         (port (K.taken sink.old) (K.faults sink.old) out.old)
         (port (K.taken sink.new) (K.faults sink.new) out.new)
-        (λ c. explained_if is_explained live.old.program.classes (session_of (setting_of live.old.program 0) context.now.limit live.old.program.commands names.old c)) }
+        (λ c. explained_if context.now.is_explained live.old.program.classes (session_of (setting_of live.old.program 0) context.now.limit live.old.program.commands names.old c)) }
     ensures reads { CountsReads (ends_unread result) (I.faults source.old) (I.faults source.new) }
     ensures written { ends_unread result ≡ true → out.new.held ≡ [] }
     ensures untouched { session_asks live.old.program.rules live.old.program.commands ≡ false → (input.new ≡ input.old) × (source.new ≡ source.old) }
@@ -113,6 +114,7 @@ fn do_all<
     ensures flushed { out.old.held ≡ [] → OnOk result (out.new.held ≡ []) }
 {
     let session = do_commands(context, live, names, input, source, out, sink)?;
+    let is_explained = context.is_explained;
     if !is_explained {
         return Ok(session);
     }
@@ -127,22 +129,20 @@ fn do_all<
 pub fn run_session<
     B: Maker,
     H: Fn(B::M, &[Change]) -> Result<Settled<B::M>, OutOfMemory>,
+    A: Actor<B::M, I, K>,
     I: Source,
     K: Sink,
 >(
-    alloc: Global,
-    hand: &H,
+    context: &SessionContext<'_, B, H, A>,
     live: &mut Live,
     names: &mut Names,
-    maker: &B,
-    limit: u64,
-    is_explained: bool,
     input: &mut Input,
     source: &mut I,
     out: &mut Out,
     sink: &mut K,
 ) -> Result<Ending, Stop>
-    requires settles { Settles B.M.stored B.M.found B.M.stands_for (λ m cs. H.pre hand.now m cs) (λ m cs r. H.post hand.now m cs r) }
+    requires settles { Settles B.M.stored B.M.found B.M.stands_for (λ m cs. H.pre context.now.settle.now m cs) (λ m cs r. H.post context.now.settle.now m cs r) }
+    requires able { A.able context.now.actor.now }
     requires whole { IsTrue out.old.whole }
     requires faults { K.faults sink.old < 2 ^ 63 }
     requires reads { I.faults source.old < 2 ^ 63 }
@@ -153,7 +153,7 @@ pub fn run_session<
         (port (K.taken sink.old) (K.faults sink.old) out.old)
         (port (K.taken sink.new) (K.faults sink.new) out.new)
         names.new
-        (λ c. explained_if is_explained live.old.program.classes (session_of (setting_of live.old.program 0) limit live.old.program.commands names.old c)) }
+        (λ c. explained_if context.now.is_explained live.old.program.classes (session_of (setting_of live.old.program 0) context.now.limit live.old.program.commands names.old c)) }
     ensures reads { CountsReadFault result (I.faults source.old) (I.faults source.new) }
     ensures written { result ≡ Ok Ending.ReadFault → out.new.held ≡ [] }
 
@@ -165,24 +165,9 @@ pub fn run_session<
 
     // Where the names hold each symbol of the program, they hold at the end those of the program and of working memory,
     // and the name of the production that an ending tells.
-    ensures held { HoldsProgram names.old live.old.program → HoldsProgram names.new live.old.program × EndsHeld live.old.program limit names.old }
-    ensures sets { GoesByConflictSets (setting_of live.old.program 0) limit live.old.program.commands names.old }
+    ensures held { HoldsProgram names.old live.old.program → HoldsProgram names.new live.old.program × EndsHeld live.old.program context.now.limit names.old }
+    ensures sets { GoesByConflictSets (setting_of live.old.program 0) context.now.limit live.old.program.commands names.old }
 {
-    let context = SessionContext {
-        alloc,
-        maker,
-        settle: hand,
-        limit,
-    };
-    let done = do_all(
-        &context,
-        is_explained,
-        live,
-        names,
-        input,
-        source,
-        out,
-        sink,
-    );
+    let done = do_all(context, live, names, input, source, out, sink);
     known_ending(done)
 }

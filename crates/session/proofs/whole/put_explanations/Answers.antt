@@ -1,15 +1,14 @@
 use Rattle.std.proofs.Common.{◌≡◌, ◌∙◌, ap, sym, subst, refl, false, [], List, Err}
 use Rattle.std.proofs.lemmas.Result.{err_from_is_err_and}
 use Rattle.ops_base.specs.declared.elements.Element.{Element}
-use Rattle.ops_base.specs.declared.endings.Ending.{Ending}
 use Rattle.ops_base.specs.WorkingMemory.{HasRisingTags, shown}
 use Rattle.ops_io.specs.Coming.{Coming}
-use Rattle.ops_io.specs.Ports.{Port, port}
+use Rattle.ops_io.specs.Ports.{port}
 use Rattle.ops_io.specs.declared.stop.Stop.TheVariants as stop
 use Rattle.ops_io.proofs.PortLemmas.{put_then_stopped, put_then_flushed}
-use Rattle.ops_meaning.specs.Effects.{Fails, Performs, of_ending}
+use Rattle.ops_meaning.specs.Effects.{Fails, of_ending}
 use Rattle.ops_meaning.specs.Layout.{lines_at}
-use Rattle.ops_meaning.specs.Running.{Session as Meant, lists}
+use Rattle.ops_meaning.specs.Running.{lists}
 use Rattle.ops_meaning.proofs.EffectLemmas.{fails_short}
 use Rattle.work_store.specs.Stored.{Stored}
 use Rattle.session.specs.Courses.{meant_by}

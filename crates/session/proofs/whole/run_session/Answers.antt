@@ -24,12 +24,12 @@ returns-clause-written g c = λ is.
 pub returns-clause-flushed : goal.returns-clause-flushed
 returns-clause-flushed g c = λ empty firings elements last_tag is.
     ended_done _ g.B.M.Matcher.stored c.do_all-done.new.live.program.rules c.do_all-done.new.names c.do_all-done.result _ _ _ _ _ _ firings elements last_tag
-    (λ z. explained_early c.args.is_explained c.args.live.now.program.classes _ (session_early (setting_of c.args.live.now.program 0) c.args.limit c.args.live.now.program.commands c.args.names.now z)) c.do_all-done.ensures.performs
+    (λ z. explained_early c.args.context.now.is_explained c.args.live.now.program.classes _ (session_early (setting_of c.args.live.now.program 0) c.args.context.now.limit c.args.live.now.program.commands c.args.names.now z)) c.do_all-done.ensures.performs
     (c.do_all-done.ensures.flushed empty) (sym c.known_ending.ensures ∙ is)
 
 pub returns-clause-sets : goal.returns-clause-sets
-returns-clause-sets g c = session_goes (setting_of c.args.live.now.program 0) c.args.limit c.args.live.now.program.commands c.args.names.now
+returns-clause-sets g c = session_goes (setting_of c.args.live.now.program 0) c.args.context.now.limit c.args.live.now.program.commands c.args.names.now
 
 pub returns-clause-held : goal.returns-clause-held
 returns-clause-held g c = λ h.
-    (holds_program c.args.names.now c.do_all-done.new.names c.args.live.now.program c.do_all-done.ensures.names h, session_held c.args.live.now.program c.args.limit c.args.names.now h)
+    (holds_program c.args.names.now c.do_all-done.new.names c.args.live.now.program c.do_all-done.ensures.names h, session_held c.args.live.now.program c.args.context.now.limit c.args.names.now h)

@@ -1,0 +1,15 @@
+//! What a firing tells beside the state that it leaves.
+
+use ops_base::elements::Change;
+use ops_base::list::Listed;
+use ops_base::rules::Inst;
+
+/// What fired, whether `halt` was done in it, its changes to working memory in order, and the instantiations that were
+/// found before its phase and are not found after it, in the order of production and tags.
+#[derive(Drop)]
+pub struct Fired {
+    pub inst: Inst,
+    pub halted: bool,
+    pub changes: Listed<Change>,
+    pub gone: Listed<Inst>,
+}
