@@ -1,5 +1,5 @@
 -- Marks as sets of keys in order.
-use Rattle.std.proofs.Common.{◌≡◌, List, [], ◌∷◌, ◌++◌, filter, Bool, true, false, cond, not, refl, ap, sym, ◌∙◌, subst, inl, inr, append_assoc}
+use Rattle.std.proofs.Common.{◌≡◌, length, arith, List, [], ◌∷◌, ◌++◌, filter, Bool, true, false, cond, not, ◌||◌, refl, ap, sym, ◌∙◌, subst, inl, inr, append_assoc}
 use Rattle.std.specs.Bool.{Decides}
 use Rattle.std.specs.BTreeMap.{is_at}
 use Rattle.std.specs.BTreeSet.{insert_key}
@@ -87,34 +87,34 @@ remove_is g (x ∷ xs) a =
 
 -- ---- several that are gone
 
-among_one : (x g : Inst) → is_among (g ∷ []) x ≡ is_same_inst x g
-among_one x g = by (is_same_inst x g)
+-- what is gone first is taken out first
+pub first_gone : (g : Inst) (rest xs : List Inst) → without_gone rest (filter (differs g) xs) ≡ without_gone (g ∷ rest) xs
+first_gone g rest [] = refl
+first_gone g rest (x ∷ xs) = by (is_same_inst x g) (first_gone g rest xs)
   where
-    by : (b : Bool) → cond b true false ≡ b
-    by true = refl
-    by false = refl
-
-among_more : (ys : List Inst) (g x : Inst) → is_among (ys ++ g ∷ []) x ≡ cond (is_among ys x) true (is_same_inst x g)
-among_more [] g x = among_one x g
-among_more (y ∷ ys) g x = by (is_same_inst x y) (among_more ys g x)
-  where
-    by : (b : Bool) → is_among (ys ++ g ∷ []) x ≡ cond (is_among ys x) true (is_same_inst x g) → cond b true (is_among (ys ++ g ∷ []) x) ≡ cond (cond b true (is_among ys x)) true (is_same_inst x g)
-    by true e = refl
-    by false e = e
-
--- one more is gone
-pub one_gone : (ys : List Inst) (g : Inst) (xs : List Inst) → filter (differs g) (without_gone ys xs) ≡ without_gone (ys ++ g ∷ []) xs
-one_gone ys g [] = refl
-one_gone ys g (x ∷ xs) =
-    by (is_among ys x) (is_same_inst x g) refl (one_gone ys g xs)
-    ∙ ap (λ b. cond (not b) (x ∷ without_gone (ys ++ g ∷ []) xs) (without_gone (ys ++ g ∷ []) xs)) (sym (among_more ys g x))
-  where
-    by : (b c : Bool) → is_same_inst x g ≡ c → filter (differs g) (without_gone ys xs) ≡ without_gone (ys ++ g ∷ []) xs
-        → filter (differs g) (cond (not b) (x ∷ without_gone ys xs) (without_gone ys xs)) ≡ cond (not (cond b true c)) (x ∷ without_gone (ys ++ g ∷ []) xs) (without_gone (ys ++ g ∷ []) xs)
-    by true c e later = later
-    by false true e later = ap (λ b. cond (not b) (x ∷ filter (differs g) (without_gone ys xs)) (filter (differs g) (without_gone ys xs))) e ∙ later
-    by false false e later = ap (λ b. cond (not b) (x ∷ filter (differs g) (without_gone ys xs)) (filter (differs g) (without_gone ys xs))) e ∙ ap (λ ws. x ∷ ws) later
+    by : (b : Bool) → without_gone rest (filter (differs g) xs) ≡ without_gone (g ∷ rest) xs
+        → without_gone rest (cond (not b) (x ∷ filter (differs g) xs) (filter (differs g) xs)) ≡ cond (not (b || is_among rest x)) (x ∷ without_gone (g ∷ rest) xs) (without_gone (g ∷ rest) xs)
+    by true later = later
+    by false later = ap (λ ws. cond (not (is_among rest x)) (x ∷ ws) ws) later
 
 pub none_gone : (xs : List Inst) → xs ≡ without_gone [] xs
 none_gone [] = refl
 none_gone (x ∷ xs) = ap (λ ws. x ∷ ws) (none_gone xs)
+
+-- ---- items in order
+
+-- each stands before those behind it
+pub stands_behind : (ys : List Inst) (i : Inst) (rest : List Inst) → AllBefore Before (ys ++ i ∷ rest) → (y : Inst) → IsMember y ys → Before y i
+stands_behind [] i rest a y m = absurd m
+stands_behind (z ∷ ys) i rest a y (inl e) =
+    let P : Inst → Type 0 = λ w. Before w i in subst P (sym e) (a.0 i (member_right i ys (i ∷ rest) (inl refl)))
+stands_behind (z ∷ ys) i rest a y (inr m) = stands_behind ys i rest a.1 y m
+
+pub put_next : (ys : List Inst) (i : Inst) (rest all : List Inst) → ys ++ i ∷ rest ≡ all → IsInOrder all → with_inst i ys ≡ ys ++ i ∷ []
+put_next ys i rest all is order =
+    let P : List Inst → Type 0 = AllBefore Before in
+    with_last i ys (stands_behind ys i rest (subst P (sym is) (before_from_all_pairs Before all order)))
+
+pub no_items : {X : Type 0} (xs : List X) → length xs ≡ 0 → xs ≡ []
+no_items [] e = refl
+no_items (x ∷ xs) e = absurd (omega (arith, e))

@@ -1,5 +1,5 @@
 -- How the trail keeps its states: the oldest one whole, and of each firing since what it changed.
-use Rattle.std.specs.Prelude.{◌≡◌, ℕ, ◌<◌, ◌≤◌, List, [], ◌∷◌, length, drop, All, Option, None, Some}
+use Rattle.std.specs.Prelude.{◌≡◌, ℕ, ◌<◌, ◌≤◌, ◌-◌, List, [], ◌∷◌, ◌++◌, length, drop, take, All, Option, None, Some}
 use Rattle.ops_base.specs.Instances.{IsInOrder}
 use Rattle.ops_base.specs.declared.commands.Strategy.{Strategy}
 use Rattle.ops_base.specs.declared.elements.Change.{Change}
@@ -17,7 +17,7 @@ use Rattle.cycle.specs.declared.fired.Fired.{Fired}
 use Rattle.cycle.specs.Standing.{Standing, after_firing}
 use Rattle.back_trail.specs.declared.steps.Step.{Step}
 use Rattle.back_trail.specs.declared.steps.Late.{Late}
-use Rattle.back_trail.specs.Trails.{Earlier, Trailed}
+use Rattle.back_trail.specs.Trails.{Earlier, Begun, last_ones}
 
 -- what holds of a state of the cycle: tags rise from 1 on and none is above the last, and marks stand in order
 pub record IsSound (s : Standing) : Type 0 where
@@ -58,9 +58,20 @@ IsLateLawful s None = Unit {0}
 IsLateLawful s (Some f) = Lawful s.wm s.last f.changes
 
 -- the trail with this oldest state, perhaps a firing from there to the first state shown, and the firings since
-abbrev pub trailed : Standing → Option Fired → List Step → Trailed
-trailed oldest late steps =
-    let first = after_late late oldest in record { states = states_from first steps; now = Some (after_steps first steps) }
+abbrev pub begun : Standing → Option Fired → List Step → Begun
+begun oldest late steps =
+    let first = after_late late oldest in record { states = states_from first steps; now = after_steps first steps }
+
+-- it has one firing more
+abbrev pub one_more : Step → Begun → Begun
+one_more t b = record {
+  states = last_ones (b.states ++ record { standing = b.now; point = t.point } ∷ []);
+  now = after_firing t.fired b.now;
+}
+
+-- the last n states are taken off, of which this is the earliest
+abbrev pub cut_to : ℕ → Earlier → Begun → Begun
+cut_to n e b = record { states = take (length b.states - n) b.states; now = e.standing }
 
 -- what a trail keeps true of these
 pub record IsTrail (oldest : Standing) (late : Option Fired) (steps : List Step) : Type 0 where
@@ -106,3 +117,8 @@ with_first (Some t) steps = t ∷ steps
 abbrev pub IsOver : Option Step → ℕ → Type 0
 IsOver None n = n < 32
 IsOver (Some t) n = n ≡ 32
+
+-- what was taken off is the firing from the oldest state
+abbrev pub given_up : Option Step → Option Fired
+given_up None = None
+given_up (Some t) = Some t.fired

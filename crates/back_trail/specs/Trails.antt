@@ -21,10 +21,14 @@ pub record Trailed : Type 0 where
 abbrev pub nothing_kept : Trailed
 nothing_kept = record { states = []; now = None }
 
--- of a trail that may not have begun
-abbrev pub trail_of : Option Trailed → Trailed
+-- the same where a state after them is known
+pub record Begun : Type 0 where
+  pub states : List Earlier
+  pub now : Standing
+
+abbrev pub trail_of : Option Begun → Trailed
 trail_of None = nothing_kept
-trail_of (Some t) = t
+trail_of (Some b) = record { states = b.states; now = Some b.now }
 
 -- of the states the last 32
 abbrev pub last_ones : List Earlier → List Earlier

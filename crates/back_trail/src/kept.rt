@@ -2,8 +2,8 @@
 ghost use Rattle.std.specs.Prelude.{◌≡◌, ◌≤◌, ◌<◌, ◌-◌, ◌∷◌, ◌++◌, [], Some, None, length, slice_get, take, IfOk, OnOk, OnErr};
 ghost use Rattle.ops_base.specs.WorkingMemory.{Lawful};
 ghost use Rattle.cycle.specs.Standing.{Standing, after_firing, standing};
-ghost use Rattle.back_trail.specs.Kept.{AreLawful, IsLateLawful, IsOver, after_late, after_steps, late_of, left_of, with_first};
-ghost use Rattle.back_trail.specs.Trails.{Earlier, last_ones, taken_back, with_firing};
+ghost use Rattle.back_trail.specs.Kept.{AreLawful, IsLateLawful, IsOver, after_late, after_steps, cut_to, given_up, late_of, left_of, one_more, with_first};
+ghost use Rattle.back_trail.specs.Trails.{Earlier};
 
 use crate::oldest::Oldest;
 use crate::remade::Remade;
@@ -28,12 +28,12 @@ pub(crate) struct Kept {
 }
 
 impl Model for Kept {
-    ghost use Rattle.back_trail.specs.Trails.{Trailed};
-    ghost use Rattle.back_trail.specs.Kept.{IsTrail, late_of, trailed};
+    ghost use Rattle.back_trail.specs.Trails.{Begun};
+    ghost use Rattle.back_trail.specs.Kept.{IsTrail, begun, late_of};
 
-    ghost Value = { Trailed };
+    ghost Value = { Begun };
 
-    ghost view = { λ k. trailed k.oldest (late_of k.late) k.steps.items };
+    ghost view = { λ k. begun k.oldest (late_of k.late) k.steps.items };
 
     ghost invariant = { λ k. IsTrail k.oldest (late_of k.late) k.steps.items };
 }
@@ -54,11 +54,7 @@ fn do_changes(alloc: Global, oldest: &mut Oldest, late: &mut Late) -> Result<(),
 }
 
 /// Does to the oldest state what is left of the firing from it. If memory runs out, less of it may be left.
-fn catch_up(
-    alloc: Global,
-    oldest: &mut Oldest,
-    late: &mut Option<Late>,
-) -> Result<(), OutOfMemory>
+fn catch_up(alloc: Global, oldest: &mut Oldest, late: &mut Option<Late>) -> Result<(), OutOfMemory>
     requires { IsLateLawful oldest.old (late_of late.old) }
     ensures none { OnOk result (late.new ≡ None) }
     ensures lawful { IsLateLawful oldest.new (late_of late.new) }
@@ -88,6 +84,14 @@ fn add_step(steps: &mut Vec<Step>, step: Step) -> Result<Option<Step>, OutOfMemo
         return Ok(None);
     }
     Ok(Some(steps.remove(0)))
+}
+
+/// What was taken off is left to do to the oldest state.
+fn late_from(first: Option<Step>) -> Option<Late>
+    ensures { late_of result ≡ given_up first }
+{
+    let Step { point: _, fired } = first?;
+    Some(Late { fired, did: 0 })
 }
 
 /// The changes of a firing that are left to do.
@@ -137,7 +141,7 @@ fn after_all(alloc: Global, first: Remade, steps: &[Step]) -> Result<Remade, Out
 impl Kept {
     /// No firings yet after a state.
     pub(crate) fn new(alloc: Global, oldest: Oldest) -> Kept
-        ensures { result ≡ record { states = []; now = Some oldest } }
+        ensures { result ≡ record { states = []; now = oldest } }
     {
         Kept {
             oldest,
@@ -154,14 +158,12 @@ impl Kept {
 
     /// One firing more. If memory runs out, nothing has changed.
     pub(crate) fn push(&mut self, alloc: Global, step: Step) -> Result<(), OutOfMemory>
-        requires { (s : Standing) → self.old.now ≡ Some s → Lawful s.wm s.last step.fired.changes }
-        ensures ok { OnOk result ((s : Standing) → self.old.now ≡ Some s → self.new ≡ with_firing s step.point step.fired self.old) }
+        requires { Lawful self.old.now.wm self.old.now.last step.fired.changes }
+        ensures ok { OnOk result (self.new ≡ one_more step self.old) }
         ensures err { OnErr result (self.new ≡ self.old) }
     {
         catch_up(alloc, &mut self.oldest, &mut self.late)?;
-        if let Some(Step { point: _, fired }) = add_step(&mut self.steps, step)? {
-            self.late = Some(Late { fired, did: 0 });
-        }
+        self.late = late_from(add_step(&mut self.steps, step)?);
         Ok(())
     }
 
@@ -175,7 +177,12 @@ impl Kept {
     }
 
     /// The earliest of the last n states, made anew. It copies the oldest state and the firings since.
-    pub(crate) fn remade(&self, alloc: Global, classes: usize, n: usize) -> Result<Remade, OutOfMemory>
+    pub(crate) fn remade(
+        &self,
+        alloc: Global,
+        classes: usize,
+        n: usize,
+    ) -> Result<Remade, OutOfMemory>
         requires some { 0 < n }
         requires within { n ≤ length self.now.states }
         ensures { IfOk result (λ r. (e : Earlier) → slice_get self.now.states (length self.now.states - n) ≡ Some e → r ≡ e.standing) }
@@ -190,7 +197,7 @@ impl Kept {
     pub(crate) fn cut(&mut self, n: usize)
         requires some { 0 < n }
         requires within { n ≤ length self.old.states }
-        ensures { (e : Earlier) → slice_get self.old.states (length self.old.states - n) ≡ Some e → self.new ≡ taken_back n e self.old }
+        ensures { (e : Earlier) → slice_get self.old.states (length self.old.states - n) ≡ Some e → self.new ≡ cut_to n e self.old }
     {
         let left = self.steps.len() - n;
         self.steps.truncate(left);

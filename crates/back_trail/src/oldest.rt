@@ -50,7 +50,10 @@ fn store_of(alloc: Global, from: &Store) -> Result<Store, OutOfMemory>
 
 impl Oldest {
     /// Copies the elements and the marks of a state.
-    pub(crate) fn copy_of<M: Matcher>(alloc: Global, state: &State<M>) -> Result<Oldest, OutOfMemory>
+    pub(crate) fn copy_of<M: Matcher>(
+        alloc: Global,
+        state: &State<M>,
+    ) -> Result<Oldest, OutOfMemory>
         ensures { IfOk result (λ o. o ≡ standing M.stored state.now) }
     {
         let last = state.last_tag();

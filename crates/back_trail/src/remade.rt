@@ -1,5 +1,5 @@
 //! An earlier state as the changes that make it from nothing, with its marks.
-ghost use Rattle.std.specs.Prelude.{◌≡◌, ◌++◌, List, [], false, IfOk};
+ghost use Rattle.std.specs.Prelude.{◌≡◌, ◌++◌, List, [], false, IfOk, OnOk};
 ghost use Rattle.ops_base.specs.declared.rules.Rule.{Rule};
 ghost use Rattle.ops_base.specs.Names.{Spellings};
 ghost use Rattle.ops_base.specs.WorkingMemory.{Lawful};
@@ -42,11 +42,7 @@ impl Model for Remade {
 }
 
 /// Adds copies of changes at the end.
-fn add_changes(
-    alloc: Global,
-    changes: &mut Vec<Change>,
-    more: &[Change],
-) -> Result<(), OutOfMemory>
+fn add_changes(alloc: Global, changes: &mut Vec<Change>, more: &[Change]) -> Result<(), OutOfMemory>
     ensures { OnOk result (changes.new.items ≡ changes.old.items ++ more.now) }
 {
     for change in more {
@@ -107,7 +103,10 @@ impl Remade {
 
     /// A state of the cycle: a new matcher does the changes in one phase, and what it finds gets the marks. It costs the
     /// compilation of the program and that phase.
-    pub(crate) fn into_state<B: Maker, H: Fn(B::M, &[Change]) -> Result<Settled<B::M>, OutOfMemory>>(
+    pub(crate) fn into_state<
+        B: Maker,
+        H: Fn(B::M, &[Change]) -> Result<Settled<B::M>, OutOfMemory>,
+    >(
         self,
         alloc: Global,
         maker: &B,
