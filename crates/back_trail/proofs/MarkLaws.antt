@@ -118,3 +118,14 @@ put_next ys i rest all is order =
 pub no_items : {X : Type 0} (xs : List X) → length xs ≡ 0 → xs ≡ []
 no_items [] e = refl
 no_items (x ∷ xs) e = absurd (omega (arith, e))
+
+-- what is gone need not be marked first
+pub marked_in_vain : (gone : List Inst) (i : Inst) (xs : List Inst) → is_among gone i ≡ true → without_gone gone xs ≡ without_gone gone (with_inst i xs)
+marked_in_vain gone i [] e = ap (λ b. cond (not b) (i ∷ []) []) (sym e)
+marked_in_vain gone i (x ∷ xs) e = by (by_rule_and_tags i x) (standing i x (by_rule_and_tags i x) refl) (marked_in_vain gone i xs e)
+  where
+    by : (o : Ordering) → MatchOrdering o (Before i x) (i ≡ x) (Before x i) → without_gone gone xs ≡ without_gone gone (with_inst i xs)
+        → without_gone gone (x ∷ xs) ≡ without_gone gone (match_ordering o (i ∷ x ∷ xs) (i ∷ xs) (x ∷ with_inst i xs))
+    by Less h later = ap (λ b. cond (not b) (i ∷ without_gone gone (x ∷ xs)) (without_gone gone (x ∷ xs))) (sym e)
+    by Equal h later = ap (λ w. without_gone gone (w ∷ xs)) (sym h)
+    by Greater h later = ap (λ ws. cond (not (is_among gone x)) (x ∷ ws) ws) later

@@ -59,6 +59,11 @@ held_without store fired marks last gone is h =
     let P : List Inst → Type 0 = λ ms. IsHeld store ms last in
     subst P (sym is) (record { below = h.below; sound = record { well = h.sound.well; above = h.sound.above; in_order = marks_without gone fired h.sound.in_order } })
 
+-- removed elements are let go
+pub held_forgotten : (store next : Stored) (fired : List Inst) (last : ℕ) → next ≡ record store { kept = [] } → IsHeld store fired last → IsHeld next fired last
+held_forgotten store next fired last is h =
+    let P : Stored → Type 0 = λ s. IsHeld s fired last in subst P (sym is) (record { below = h.below; sound = h.sound })
+
 -- a mark is put in, or memory runs out
 pub held_marked : {X E : Type 0} (r : Result X E) (store : Stored) (fired marks : List Inst) (last : ℕ) (i : Inst) → OnOk r (marks ≡ with_inst i fired) → OnErr r (marks ≡ fired) → IsHeld store fired last → IsHeld store marks last
 held_marked (Ok x) store fired marks last i ok err h = held_with store fired marks last i ok h

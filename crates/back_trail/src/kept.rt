@@ -64,7 +64,7 @@ fn catch_up(alloc: Global, oldest: &mut Oldest, late: &mut Option<Late>) -> Resu
         return Ok(());
     };
     do_changes(alloc, oldest, firing)?;
-    oldest.mark(alloc, &firing.fired.inst)?;
+    oldest.mark(alloc, &firing.fired.inst, firing.fired.gone.as_slice())?;
     if let Some(firing) = late.take() {
         oldest.forget(firing.fired.gone.into_vec());
     }

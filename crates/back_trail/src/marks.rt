@@ -3,6 +3,7 @@ ghost use Rattle.std.specs.Prelude.{◌≡◌, ◌++◌, IfOk, OnOk, OnErr, Some
 ghost use Rattle.std.specs.Cmp.{partial_equiv_from_equiv, eq_by_cmp_equiv, partial_order_from_agreeing_total};
 ghost use Rattle.std.specs.Ordering.{eq_by_cmp};
 ghost use Rattle.ops_base.specs.Instances.{by_rule_and_tags, IsInOrder};
+ghost use Rattle.ops_base.specs.Refraction.{is_among, is_same_inst};
 ghost use Rattle.cycle.specs.Standing.{with_inst, without_gone};
 ghost use Rattle.back_trail.specs.Marks.{marks_total};
 
@@ -74,6 +75,19 @@ pub(crate) fn put_mark(marks: &mut Marks, inst: Inst) -> Result<(), OutOfMemory>
 {
     marks.insert(Mark { inst })?;
     Ok(())
+}
+
+fn is_same(i: &Inst, j: &Inst) -> bool
+    ensures { result ≡ is_same_inst i.now j.now }
+{
+    i.rule == j.rule && i.tags.as_slice() == j.tags.as_slice()
+}
+
+/// Looks at one after the other.
+pub(crate) fn is_among(insts: &[Inst], inst: &Inst) -> bool
+    ensures { result ≡ is_among insts.now inst.now }
+{
+    insts.iter().any(|other| is_same(inst, other))
 }
 
 /// Takes out those that are gone. Takes no memory.

@@ -6,7 +6,7 @@ ghost use Rattle.ops_base.specs.declared.elements.Change.TheVariants.{Add};
 ghost use Rattle.cycle.specs.Standing.{Standing, standing, with_inst, without_gone};
 ghost use Rattle.back_trail.specs.Kept.{IsSound};
 
-use crate::marks::{Marks, drop_marks, insts_of, marks_of, put_mark};
+use crate::marks::{Marks, drop_marks, insts_of, is_among, marks_of, put_mark};
 use cycle::State;
 use live_rules::fed;
 use ops_base::elements::Change;
@@ -75,25 +75,35 @@ impl Oldest {
             }
             Change::Remove(tag) => {
                 self.store.remove(*tag);
-                self.store.forget();
             }
         }
         Ok(())
     }
 
-    /// An instantiation is marked. If memory runs out, nothing has changed.
-    pub(crate) fn mark(&mut self, alloc: Global, inst: &Inst) -> Result<(), OutOfMemory>
-        ensures ok { OnOk result (self.new ≡ record self.old { fired = with_inst inst.now self.old.fired }) }
+    /// An instantiation is marked, unless it is among what is gone, whose marks are to be forgotten. If memory runs out,
+    /// nothing has changed.
+    pub(crate) fn mark(
+        &mut self,
+        alloc: Global,
+        inst: &Inst,
+        gone: &[Inst],
+    ) -> Result<(), OutOfMemory>
+        ensures ok { OnOk result (record self.new { fired = without_gone gone.now self.new.fired }
+            ≡ record self.old { fired = without_gone gone.now (with_inst inst.now self.old.fired) }) }
         ensures err { OnErr result (self.new ≡ self.old) }
     {
+        if is_among(gone, inst) {
+            return Ok(());
+        }
         put_mark(&mut self.marks, inst.copy(alloc)?)
     }
 
-    /// The marks of what is gone are forgotten. Takes no memory.
+    /// The marks of what is gone are forgotten, and the elements that were removed are let go. Takes no memory.
     pub(crate) fn forget(&mut self, gone: Vec<Inst>)
         ensures { self.new ≡ record self.old { fired = without_gone gone.items self.old.fired } }
     {
         drop_marks(&mut self.marks, gone);
+        self.store.forget();
     }
 
     /// The changes that make working memory and the last tag anew. Copies the elements.

@@ -14,8 +14,6 @@ remove-requires c =
 pub invariant_of-self-in-Remove : goal.invariant_of-self-in-Remove
 invariant_of-self-in-Remove c =
     let s : Standing = record { wm = c.self.inside.store.elements; fired = c.self.inside.marks.keys; last = c.self.inside.last } in
-    let store = c.self.inside.store in
-    let tag : c.forget.new.self.last ≡ store.last = ap (λ (w : Stored). w.last) c.forget.ensures ∙ c.remove.ensures.last in
-    held_done store c.forget.new.self c.self.inside.marks.keys c.self.inside.last c.self.inside.last (Remove c.in-Remove.tag) (ap (λ (w : Stored). w.elements) c.forget.ensures ∙ c.remove.ensures.elements) refl
-    (omega (arith, tag, c.self.invariant.below))
+    held_done c.self.inside.store c.remove.new.self c.self.inside.marks.keys c.self.inside.last c.self.inside.last (Remove c.in-Remove.tag) c.remove.ensures.elements refl
+    (omega (arith, c.remove.ensures.last, c.self.invariant.below))
     (lawful_so s c.args.self.now c.self.view_is c.args.change.now (Remove c.in-Remove.tag) c.in-Remove.is c.requires) c.self.invariant
