@@ -52,8 +52,8 @@ operator_depth c s =
     choice_depth (bytes_eq s (codes "//")) (record c { before = before.Literal }) _ n same
     (choice_depth (bytes_eq s (codes ">>")) (record c { choice = false; before = before.Other }) _ n same
     (choice_depth (is_literal c.before) (plain c) _ n same
-    (choice_depth (bytes_eq s (codes "<<")) (record c { choice = true; before = before.Other }) _ n same
-    (choice_depth (bytes_eq s (codes "-->")) (record c { conditions = false; before = before.Other }) (plain c) n same same))))
+    (choice_depth (bytes_eq s (codes "<<")) (record c { choice = c.conditions; before = before.Other }) _ n same
+    (choice_depth (bytes_eq s (codes "-->")) (record c { conditions = c.conditions && c.choice; before = before.Other }) (plain c) n same same))))
 
 symbol_depth : (b : Before) (c : Context) (s : List ℕ) → (after_symbol b c s).depth ≤ c.depth + 1
 symbol_depth before.Bracket c s =

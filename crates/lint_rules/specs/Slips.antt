@@ -40,14 +40,15 @@ after_right c =
     }
 
 -- `//` makes a literal of the word after it. An operator that is such a literal has no other meaning, but >> always
--- ends a choice, in which `//` is a value.
+-- ends a choice, in which `//` and `-->` are values. A choice begins among conditions alone: elsewhere `<<` is a
+-- symbol.
 abbrev pub after_operator : Context → List ℕ → Context
 after_operator c s =
     if bytes_eq s (codes "//") then record c { before = before.Literal }
     else if bytes_eq s (codes ">>") then record c { choice = false; before = before.Other }
     else if is_literal c.before then plain c
-    else if bytes_eq s (codes "<<") then record c { choice = true; before = before.Other }
-    else if bytes_eq s (codes "-->") then record c { conditions = false; before = before.Other }
+    else if bytes_eq s (codes "<<") then record c { choice = c.conditions; before = before.Other }
+    else if bytes_eq s (codes "-->") then record c { conditions = c.conditions && c.choice; before = before.Other }
     else plain c
 
 -- The first word of a form says that conditions follow its name, and the first word after a bracket outside conditions

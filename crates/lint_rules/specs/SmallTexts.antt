@@ -25,11 +25,16 @@ SlipsAreFound =
     × HasSlip (codes "(p r (a ^x << <y> >>) -->)") slip.ChosenVariable 1 15
     × HasSlip (codes "(p r (a) --> (write \"hi there))") slip.QuotedString 1 21
     × HasSlip (codes "(p r (a) --> (write crlf))") slip.PlainCrlf 1 21
+    × HasSlip (codes "(p r (a ^x << --> <y> >>) -->)") slip.ChosenVariable 1 19
 
--- a literal, the name of a production, a class with the name of an action, and words as they are meant
+-- a literal, the name of a production, a class with the name of an action, also behind a `-->` in a choice, a `<<` that
+-- is written, and words as they are meant
 abbrev pub NoSlipIsFound : Type 0
 NoSlipIsFound =
     HasNone (codes "(p r (a ^x // ~red) -->)")
     × HasNone (codes "(p >0 (a) -->)")
     × HasNone (codes "(p r (write ^x crlf) -->)")
+    × HasNone (codes "(p r (a ^x << --> >>) (write ^x crlf) -->)")
+    × HasNone (codes "(p r (a ^x <v>) --> (write << <v> >>))")
+    × HasNone (codes "(p r (a ^x <u>) --> (write <<) (write <u>))")
     × HasNone (codes "(p r (a ^x <x> ^y > 0 ^z << 1 2 >>) --> (write <x> |hi there| (crlf)))")

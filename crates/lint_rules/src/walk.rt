@@ -33,7 +33,7 @@ pub(crate) struct Context {
     conditions: bool,
     /// How many brackets are open among the values of the `write` that is open, or 0.
     write: usize,
-    /// Whether it stands between `<<` and `>>`.
+    /// Whether it stands between `<<` and `>>`, among conditions.
     choice: bool,
     before: Before,
 }
@@ -93,14 +93,14 @@ fn after_operator(context: Context, spelling: &[u8]) -> Context
     }
     if is(spelling, b"<<") {
         return Context {
-            choice: true,
+            choice: context.conditions,
             before: Before::Other,
             ..context
         };
     }
     if is(spelling, b"-->") {
         return Context {
-            conditions: false,
+            conditions: context.conditions && context.choice,
             before: Before::Other,
             ..context
         };

@@ -73,11 +73,11 @@ abbrev pub attribute_text : Spellings → List Class → ℕ → ℕ → List �
 attribute_text held classes class field = spelling_of held (slice_index_or (class_of classes class).attrs field (record { 0 = 0 }))
 
 abbrev pub what_text : Spellings → List Class → ℕ → What → List ℕ
-what_text held classes class what.Element = codes " asks for an element of " ++ class_text held classes class ++ codes ", and nothing makes one"
+what_text held classes class what.Element = codes " looks for an element of " ++ class_text held classes class ++ codes ", and nothing makes one"
 what_text held classes class (what.Constant field v) =
-    codes " asks for " ++ value_text held v ++ codes " in ^" ++ attribute_text held classes class field
+    codes " looks for " ++ value_text held v ++ codes " in ^" ++ attribute_text held classes class field
     ++ codes " of " ++ class_text held classes class ++ codes ", and nothing puts it there"
-what_text held classes class what.Unmet = codes " lets no element through: its tests of one attribute exclude each other"
+what_text held classes class what.Unmet = codes " is met by no element: no value passes its tests of one attribute"
 
 abbrev pub remark_text : List ℕ → Spellings → List Class → Remark → List ℕ
 remark_text text held classes (remark.Word w) = warning_text text w

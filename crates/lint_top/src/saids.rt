@@ -58,9 +58,32 @@ fn add_value(text: &mut Vec<u8>, names: &Names, value: Value) -> Result<(), OutO
 fn add_element(text: &mut Vec<u8>, terms: Terms<'_>, class: usize) -> Result<(), OutOfMemory>
     ensures { OnOk result (text.new.items ≡ text.old.items ++ what_text terms.entry.names.now terms.entry.classes.now class What.Element) }
 {
-    text.extend_from_slice(b" asks for an element of ")?;
+    text.extend_from_slice(b" looks for an element of ")?;
     text.extend_from_slice(terms.names.text(class_name(terms.classes, class)))?;
     text.extend_from_slice(b", and nothing makes one")?;
+    Ok(())
+}
+
+/// Adds where a constant is looked for, and that nothing puts it there.
+fn add_missing(
+    text: &mut Vec<u8>,
+    terms: Terms<'_>,
+    class: usize,
+    field: usize,
+) -> Result<(), OutOfMemory>
+    ensures { OnOk result (text.new.items ≡ text.old.items
+        ++ codes " in ^" ++ attribute_text terms.entry.names.now terms.entry.classes.now class field
+        ++ codes " of " ++ class_text terms.entry.names.now terms.entry.classes.now class ++ codes ", and nothing puts it there") }
+{
+    text.extend_from_slice(b" in ^")?;
+    text.extend_from_slice(
+        terms
+            .names
+            .text(attribute_name(terms.classes, class, field)),
+    )?;
+    text.extend_from_slice(b" of ")?;
+    text.extend_from_slice(terms.names.text(class_name(terms.classes, class)))?;
+    text.extend_from_slice(b", and nothing puts it there")?;
     Ok(())
 }
 
@@ -73,18 +96,9 @@ fn add_constant(
 ) -> Result<(), OutOfMemory>
     ensures { OnOk result (text.new.items ≡ text.old.items ++ what_text terms.entry.names.now terms.entry.classes.now class (What.Constant field value)) }
 {
-    text.extend_from_slice(b" asks for ")?;
+    text.extend_from_slice(b" looks for ")?;
     add_value(text, terms.names, value)?;
-    text.extend_from_slice(b" in ^")?;
-    text.extend_from_slice(
-        terms
-            .names
-            .text(attribute_name(terms.classes, class, field)),
-    )?;
-    text.extend_from_slice(b" of ")?;
-    text.extend_from_slice(terms.names.text(class_name(terms.classes, class)))?;
-    text.extend_from_slice(b", and nothing puts it there")?;
-    Ok(())
+    add_missing(text, terms, class, field)
 }
 
 fn add_what(
@@ -100,7 +114,7 @@ fn add_what(
         What::Constant { field, value } => add_constant(text, terms, class, field, value),
         What::Unmet => {
             text.extend_from_slice(
-                b" lets no element through: its tests of one attribute exclude each other",
+                b" is met by no element: no value passes its tests of one attribute",
             )?;
             Ok(())
         }

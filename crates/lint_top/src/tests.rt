@@ -72,9 +72,9 @@ const PROGRAM: &[u8] = b"(p one (part ^name <x> ^color red) --> (remove 1))
 ";
 
 const WARNINGS: &[u8] = b"page:1:20: warning: <x> is bound and used nowhere
-page:2:1: warning: condition 1 asks for green in ^color of part, and nothing puts it there
-page:3:1: warning: condition 1 lets no element through: its tests of one attribute exclude each other
-page:4:1: warning: condition 1 asks for an element of box, and nothing makes one
+page:2:1: warning: condition 1 looks for green in ^color of part, and nothing puts it there
+page:3:1: warning: condition 1 is met by no element: no value passes its tests of one attribute
+page:4:1: warning: condition 1 looks for an element of box, and nothing makes one
 page:5:1: warning: five has the conditions of four
 page:5:26: warning: ?x is a symbol: a variable is written <name>
 ";

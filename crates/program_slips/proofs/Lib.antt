@@ -4,3 +4,4 @@ pub mod Meeting
 pub mod Adding
 pub mod Stepping
 pub mod Going
+pub mod Computed

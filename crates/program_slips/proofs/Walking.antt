@@ -1,7 +1,7 @@
 -- The walk over the tokens of a production, a step at a time.
-use Rattle.std.proofs.Common.{◌≡◌, ℕ, ◌≤◌, List, [], ◌∷◌, ◌++◌, length, Some, None, Ok, Err, Option, Bool, true, false, sym, ap, ◌∙◌, append_assoc}
+use Rattle.std.proofs.Common.{◌≡◌, ℕ, ◌+◌, ◌≤◌, List, [], ◌∷◌, ◌++◌, length, Some, None, Ok, Err, Option, Bool, true, false, sym, ap, ◌∙◌, arith, append_assoc}
 use Rattle.std.proofs.lemmas.List.Elements.{All-append, All-nil, All-from_recursion}
-use Rattle.std.specs.Prelude.{All, map, flat_map, ◌&&◌, not, if◌then◌else◌}
+use Rattle.std.specs.Prelude.{All, codes, bytes_eq, nat_lt, ◌==◌, map, flat_map, ◌&&◌, not, if◌then◌else◌}
 use Rattle.ops_tokens.specs.declared.token.Token.{Token}
 use Rattle.ops_tokens.specs.declared.token.LexFault.{LexFault}
 use Rattle.ops_tokens.specs.declared.token.TokenKind.{TokenKind}
@@ -12,7 +12,7 @@ use Rattle.ops_forms.proofs.Reading.{lexed_token, lexed_none, lexed_fault}
 use Rattle.program_slips.specs.declared.words.Standing.{Standing}
 use Rattle.program_slips.specs.declared.words.Named.{Named}
 use Rattle.ops_grammar.specs.Words.{lexed}
-use Rattle.program_slips.specs.Lone.{named_by, named_among, at_start, name_in, again_by, lone_of, lone_among, lone_in}
+use Rattle.program_slips.specs.Lone.{plain, after_operator, after_word, begins_formula, named_by, named_among, at_start, name_in, again_by, lone_of, lone_among, lone_in}
 use Rattle.program_slips.specs.Walks.{LiesWithin, StandsBefore}
 
 -- ---- the token that stands next
@@ -36,6 +36,43 @@ pub one_more : (text : List ℕ) (c next : Standing) (t : Token) (ts rest : List
 one_more text c next t ts rest all found more e first adds goes =
     e ∙ ap (λ us. found ++ named_among text c us) first ∙ ap (λ ws. found ++ ws) goes
     ∙ sym (append_assoc found (named_by t.kind c t.first t.past) (named_among text next rest)) ∙ ap (λ ws. ws ++ named_among text next rest) (sym adds)
+
+-- ---- how many brackets of a formula are open
+
+choice_formula : (b : Bool) (x y : Standing) (n : ℕ) → x.formula ≤ n → y.formula ≤ n → (if b then x else y).formula ≤ n
+choice_formula true x y n h k = h
+choice_formula false x y n h k = k
+
+choice_count : (b : Bool) (x y n : ℕ) → x ≤ n → y ≤ n → (if b then x else y) ≤ n
+choice_count true x y n h k = h
+choice_count false x y n h k = k
+
+operator_formula : (c : Standing) (s : List ℕ) → (after_operator c s).formula ≤ c.formula + 1
+operator_formula c s =
+    let n = c.formula + 1 in
+    let same : c.formula ≤ c.formula + 1 = omega arith in
+    choice_formula c.choice (record c { choice = not (bytes_eq s (codes ">>")); literal = false; head = false }) _ n same
+    (choice_formula c.literal (plain c) _ n same
+    (choice_formula (bytes_eq s (codes "//")) (record c { literal = c.formula == 0; head = false }) _ n same same))
+
+-- a word opens one of them at most
+pub one_bracket : (k : TokenKind) (c : Standing) (s : List ℕ) → (after_word k c s).formula ≤ c.formula + 1
+one_bracket kind.Left c s =
+    let more : c.formula + 1 ≤ c.formula + 1 = omega arith in
+    let none : 0 ≤ c.formula + 1 = omega arith in
+    choice_count (nat_lt 0 c.formula) (c.formula + 1) 0 (c.formula + 1) more none
+one_bracket kind.Right c s = omega arith
+one_bracket kind.LeftBrace c s = omega arith
+one_bracket kind.RightBrace c s = omega arith
+one_bracket kind.Caret c s = omega arith
+one_bracket kind.Operator c s = operator_formula c s
+one_bracket kind.Variable c s = omega arith
+one_bracket (kind.Whole n) c s = omega arith
+one_bracket kind.Symbol c s =
+    let first : 1 ≤ c.formula + 1 = omega arith in
+    let same : c.formula ≤ c.formula + 1 = omega arith in
+    choice_count (begins_formula c s) 1 c.formula (c.formula + 1) first same
+one_bracket kind.Quoted c s = omega arith
 
 -- ---- where they stand
 

@@ -5,4 +5,5 @@ pub mod Lacking
 pub mod Texts
 pub mod Alike
 pub mod Lone
+pub mod SmallTexts
 pub mod Walks

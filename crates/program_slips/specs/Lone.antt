@@ -1,5 +1,5 @@
 -- Variables whose name stands once in their production, among its conditions: they are bound, and used nowhere.
-use Rattle.std.specs.Prelude.{ℕ, ◌+◌, List, [], ◌∷◌, ◌++◌, codes, bytes_eq, map, flat_map, slice_range, length, nat_le, Bool, true, false, not, ◌&&◌, if◌then◌else◌}
+use Rattle.std.specs.Prelude.{ℕ, ◌+◌, ◌-◌, List, [], ◌∷◌, ◌++◌, codes, bytes_eq, map, flat_map, slice_range, length, nat_le, nat_lt, Bool, true, false, not, ◌==◌, ◌&&◌, if◌then◌else◌}
 use Rattle.ops_base.specs.Names.{is_held}
 use Rattle.ops_base.specs.declared.rules.Rule.{Rule}
 use Rattle.ops_base.specs.declared.commands.Command.{Command}
@@ -16,19 +16,41 @@ use Rattle.program_slips.specs.Texts.{with_text}
 -- ---- where a word stands in a production
 
 abbrev pub at_start : Standing
-at_start = record { left = true; choice = false; literal = false }
+at_start = record { left = true; choice = false; literal = false; head = false; formula = 0 }
 
--- In a choice each word is a constant up to the `>>`; else `//` makes one of the word after it.
+-- neither `//` nor an opening bracket stands right before it
+abbrev pub plain : Standing → Standing
+plain c = record c { literal = false; head = false }
+
+-- In a choice each word is a constant up to the `>>`. Else `//` makes a constant of the word after it, but in a
+-- `compute` it divides. A choice begins before the arrow alone: after it `<<` is a symbol.
 abbrev pub after_operator : Standing → List ℕ → Standing
 after_operator c s =
-    if c.choice then record { left = c.left; choice = not (bytes_eq s (codes ">>")); literal = false }
-    else if c.literal then record { left = c.left; choice = false; literal = false }
-    else if bytes_eq s (codes "//") then record { left = c.left; choice = false; literal = true }
-    else record { left = c.left && not (bytes_eq s (codes "-->")); choice = bytes_eq s (codes "<<"); literal = false }
+    if c.choice then record c { choice = not (bytes_eq s (codes ">>")); literal = false; head = false }
+    else if c.literal then plain c
+    else if bytes_eq s (codes "//") then record c { literal = c.formula == 0; head = false }
+    else record c { left = c.left && not (bytes_eq s (codes "-->")); choice = c.left && bytes_eq s (codes "<<"); literal = false; head = false }
+
+-- the brackets of a `compute` are counted
+abbrev pub after_left : Standing → Standing
+after_left c = record c { literal = false; head = true; formula = if nat_lt 0 c.formula then c.formula + 1 else 0 }
+
+abbrev pub after_right : Standing → Standing
+after_right c = record c { literal = false; head = false; formula = c.formula - 1 }
+
+-- After the arrow a bracket and `compute` begin a formula; before it, they begin a pattern of a class of that name.
+abbrev pub begins_formula : Standing → List ℕ → Bool
+begins_formula c s = c.head && not c.left && (c.formula == 0) && bytes_eq s (codes "compute")
+
+abbrev pub after_symbol : Standing → List ℕ → Standing
+after_symbol c s = record c { literal = false; head = false; formula = if begins_formula c s then 1 else c.formula }
 
 abbrev pub after_word : TokenKind → Standing → List ℕ → Standing
+after_word kind.Left c s = after_left c
+after_word kind.Right c s = after_right c
 after_word kind.Operator c s = after_operator c s
-after_word _ c s = record { left = c.left; choice = c.choice; literal = false }
+after_word kind.Symbol c s = after_symbol c s
+after_word _ c s = plain c
 
 -- ---- the variables of a production
 

@@ -15,6 +15,6 @@ pub mod words;
 pub use alike::{Twin, twins};
 pub use asked::{Ask, What};
 pub use findings::lacking;
-pub use laws::no_element_meets;
+pub use laws::{no_element_meets, small_texts};
 pub use lone_words::lone;
 pub use words::Named;

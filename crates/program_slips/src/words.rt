@@ -1,7 +1,7 @@
 //! The variables of a production, as they stand in its text.
-ghost use Rattle.std.specs.Prelude.{◌≡◌, ◌≤◌, ◌++◌, length, All, bytes_eq, IfOk, OnOk};
+ghost use Rattle.std.specs.Prelude.{◌≡◌, ◌<◌, ◌≤◌, ◌^◌, ◌++◌, length, All, bytes_eq, IfOk, OnOk};
 ghost use Rattle.ops_grammar.specs.Words.{lexed};
-ghost use Rattle.program_slips.specs.Lone.{after_operator, after_word, named_by, named_among, at_start};
+ghost use Rattle.program_slips.specs.Lone.{plain, after_operator, after_left, after_right, begins_formula, after_symbol, after_word, named_by, named_among, at_start};
 ghost use Rattle.program_slips.specs.Walks.{StandsBefore, LiesWithin};
 
 use ops_base::memory::OutOfMemory;
@@ -15,8 +15,12 @@ pub struct Standing {
     pub left: bool,
     /// Whether it stands between `<<` and `>>`.
     pub choice: bool,
-    /// Whether it stands right after `//`.
+    /// Whether it stands right after `//` that makes a constant of it.
     pub literal: bool,
+    /// Whether it stands right after an opening bracket.
+    pub head: bool,
+    /// How many brackets are open, that of the outermost `compute` and those in it, or 0.
+    pub formula: usize,
 }
 
 /// A variable, on the bytes of a text from `first` up to `past`, and whether it stands before the arrow.
@@ -33,47 +37,104 @@ fn is(word: &[u8], other: &[u8]) -> bool
     word == other
 }
 
+fn plain(standing: Standing) -> Standing
+    ensures { result ≡ plain standing }
+{
+    Standing {
+        literal: false,
+        head: false,
+        ..standing
+    }
+}
+
 fn after_operator(standing: Standing, spelling: &[u8]) -> Standing
     ensures { result ≡ after_operator standing spelling.now }
 {
-    let left = standing.left;
     if standing.choice {
         return Standing {
-            left,
             choice: !is(spelling, b">>"),
             literal: false,
+            head: false,
+            ..standing
         };
     }
     if standing.literal {
-        return Standing {
-            left,
-            choice: false,
-            literal: false,
-        };
+        return plain(standing);
     }
     if is(spelling, b"//") {
         return Standing {
-            left,
-            choice: false,
-            literal: true,
+            literal: standing.formula == 0,
+            head: false,
+            ..standing
         };
     }
     Standing {
-        left: left && !is(spelling, b"-->"),
-        choice: is(spelling, b"<<"),
+        left: standing.left && !is(spelling, b"-->"),
+        choice: standing.left && is(spelling, b"<<"),
         literal: false,
+        head: false,
+        ..standing
+    }
+}
+
+fn after_left(standing: Standing) -> Standing
+    requires { standing.formula < 2 ^ 63 }
+    ensures { result ≡ after_left standing }
+{
+    Standing {
+        literal: false,
+        head: true,
+        formula: if 0 < standing.formula {
+            standing.formula + 1
+        } else {
+            0
+        },
+        ..standing
+    }
+}
+
+fn after_right(standing: Standing) -> Standing
+    ensures { result ≡ after_right standing }
+{
+    Standing {
+        literal: false,
+        head: false,
+        formula: standing.formula.saturating_sub(1),
+        ..standing
+    }
+}
+
+fn begins_formula(standing: Standing, spelling: &[u8]) -> bool
+    ensures { result ≡ begins_formula standing spelling.now }
+{
+    standing.head && !standing.left && standing.formula == 0 && is(spelling, b"compute")
+}
+
+fn after_symbol(standing: Standing, spelling: &[u8]) -> Standing
+    ensures { result ≡ after_symbol standing spelling.now }
+{
+    Standing {
+        literal: false,
+        head: false,
+        formula: if begins_formula(standing, spelling) {
+            1
+        } else {
+            standing.formula
+        },
+        ..standing
     }
 }
 
 fn after_word(kind: TokenKind, standing: Standing, spelling: &[u8]) -> Standing
+    requires { standing.formula < 2 ^ 63 }
     ensures { result ≡ after_word kind standing spelling.now }
 {
     match kind {
+        TokenKind::Left => after_left(standing),
+        TokenKind::Right => after_right(standing),
         TokenKind::Operator => after_operator(standing, spelling),
-        _ => Standing {
-            literal: false,
-            ..standing
-        },
+        TokenKind::Symbol => after_symbol(standing, spelling),
+        _ => plain(standing),
     }
 }
 
@@ -121,6 +182,8 @@ pub(crate) fn variables_in(
         left: true,
         choice: false,
         literal: false,
+        head: false,
+        formula: 0,
     };
     let mut from = 0;
     'words: loop {

@@ -1,7 +1,7 @@
 -- What the words of the command line mean.
 use Rattle.std.specs.Prelude.{◌≡◌, List, [], ◌∷◌, ◌++◌, codes, Some}
-use Rattle.ops_jobs.specs.declared.jobs.Engine.TheVariants.{Direct, Serial, Rounds, Free}
-use Rattle.ops_jobs.specs.declared.jobs.Job.TheVariants.{Run, Net, Gen}
+use Rattle.ops_jobs.specs.declared.jobs.Engine.TheVariants.{Direct, Serial, Rounds, Free, Steal}
+use Rattle.ops_jobs.specs.declared.jobs.Job.TheVariants.{Run, Net, Gen, Why}
 use Rattle.ops_jobs.specs.declared.jobs.Options.{Options}
 use Rattle.ops_jobs.specs.CommandLine.{Word, job_of}
 
@@ -23,8 +23,11 @@ OptionsMean =
     × RunsWith (codes "--match" ∷ codes "serial" ∷ []) (record usual { engine = Serial })
     × RunsWith (codes "--match" ∷ codes "rounds" ∷ []) (record usual { engine = Rounds })
     × RunsWith (codes "--match=free" ∷ []) usual
+    × RunsWith (codes "--match" ∷ codes "steal" ∷ []) (record usual { engine = Steal })
     × RunsWith (codes "--workers" ∷ codes "3" ∷ []) (record usual { workers = 3 })
     × RunsWith (codes "--lines" ∷ codes "5" ∷ []) (record usual { lines = 5 })
     × RunsWith (codes "--limit" ∷ codes "9" ∷ []) (record usual { limit = 9 })
     × (job_of (codes "--net" ∷ file ∷ []) ≡ Some (Net (file ∷ [])))
+    × (job_of (codes "--why" ∷ file ∷ []) ≡ Some (Why usual (file ∷ [])))
+    × (job_of (codes "--why" ∷ codes "--match" ∷ codes "steal" ∷ file ∷ []) ≡ Some (Why (record usual { engine = Steal }) (file ∷ [])))
     × (job_of (codes "--gen" ∷ codes "8" ∷ codes "6" ∷ []) ≡ Some (Gen usual 8 6))

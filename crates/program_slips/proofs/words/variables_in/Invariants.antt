@@ -7,6 +7,7 @@ use Rattle.program_slips.proofs.words.variables_in.Given as goal
 abbrev pub invariant-words : goal.invariant-words
 invariant-words l = record {
   named : named_among l.text at_start (lexed l.text).tokens ≡ l.named.items ++ named_among l.text l.standing (lexed_at l.text l.from).tokens;
+  formula : l.standing.formula ≤ l.from;
   inside : l.from ≤ length l.text;
   within : All (LiesWithin l.text) l.named.items;
 }
