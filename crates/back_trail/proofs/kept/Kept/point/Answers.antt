@@ -6,7 +6,7 @@ use Rattle.back_trail.proofs.kept.Kept.point.Goals as goal
 pub overflow_sub-len : goal.overflow_sub-len
 overflow_sub-len c =
     let number = count c.self.inside.oldest (late_of c.self.inside.late) c.self.inside.steps.items c.args.self.now c.self.view_is in
-    let long : c.len.result ≡ length c.self.inside.steps.items = omega (arith, c.len.ensures, c.self.inside.steps.ok) in omega (arith, c.requires.within, number, long)
+    let long : c.len.result ≡ length c.self.inside.steps.items = omega (arith, c.len.ensures, c.self.inside.steps.ok) in omega (arith, c.requires.some, c.requires.within, number, long)
 
 pub returns : goal.returns
 returns c = λ e there.
