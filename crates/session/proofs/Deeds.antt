@@ -1,12 +1,12 @@
 -- What commands leave that read no input.
-use Rattle.std.proofs.Common.{◌≡◌, ◌∙◌, ap, sym, subst, refl, ℕ, List, false, Result, Ok, Err, IsTrue}
+use Rattle.std.proofs.Common.{◌≡◌, ◌∙◌, ap, sym, subst, refl, ℕ, List, [], false, Result, MatchResult, Ok, Err, IsTrue}
 use Rattle.ops_base.specs.declared.commands.Command.{Command}
 use Rattle.ops_base.specs.declared.endings.Ending.{Ending}
 use Rattle.ops_base.specs.declared.endings.Ending.TheVariants as ending
 use Rattle.ops_base.specs.declared.rules.Rule.{Rule}
 use Rattle.ops_base.specs.Names.{Spellings}
 use Rattle.ops_io.specs.Coming.{Coming, Inlet}
-use Rattle.ops_io.specs.Ports.{Port, Put, Stopped}
+use Rattle.ops_io.specs.Ports.{Port, Put, PutsBytes, Stopped}
 use Rattle.ops_io.specs.declared.stop.Stop.TheVariants as stop
 use Rattle.ops_meaning.specs.Acting.{Setting}
 use Rattle.ops_meaning.specs.Effects.{Effect, writes, Fails, Performs, PerformsOn, of_ending}
@@ -60,6 +60,15 @@ module _ {M H : Type 0} (stored : M → Stored) (stands_for : M → List Rule �
       under_way = under_way;
     }
 
+    -- all was put or the sink refused, whichever is answered
+    pub does_put : {X F : Type 0} (put : Result X F) (r : Result (Session M H) Ending) (t : Session M H) (a b : Port) (bytes : List ℕ) → MatchResult put (λ _. r ≡ Ok t) (λ _. r ≡ Err ending.WriteFault)
+        → ((z : Coming) → e (come s z) ≡ writes bytes (come t z)) → PutsBytes put a b bytes → IsUnderWay stored stands_for rules t → DoesSo s r a b e
+    does_put (Ok x) r t a b bytes on is put under_way =
+        let P : Result (Session M H) Ending → Type 0 = λ r. DoesSo s r a b e in subst P (sym on) (does_all t a b bytes is put under_way)
+    does_put (Err f) r t a b bytes on is stopped under_way =
+        let P : Result (Session M H) Ending → Type 0 = λ r. DoesSo s r a b e in
+        subst P (sym on) (does_refused ending.WriteFault a b bytes refl (λ z. sym (ap (λ (x : Effect Ending Meant). x.bytes) (is z))) stopped)
+
   -- the same of a session that has come to the same, where the same is meant
   pub does_as : (s t : Session M H) (r : Result (Session M H) Ending) (a b : Port) (e f : Deed) → ((z : Coming) → come s z ≡ come t z) → ((z : Coming) → e (come s z) ≡ f (come s z)) → DoesSo s r a b e → DoesSo t r a b f
   does_as s t r a b e f same meant p = record {
@@ -93,6 +102,19 @@ module _ {M H : Type 0} (stored : M → Stored) (stands_for : M → List Rule �
       reads = quiet;
       under_way = tt;
     }
+
+    -- whichever is answered
+    pub listed_so : {X F : Type 0} (put : Result X F) (r : Result (Session M H) Ending) → MatchResult put (λ _. r ≡ Ok t) (λ _. r ≡ Err ending.WriteFault) → PutsBytes put a b (lines_at a.out.column told) → IsUnderWay stored stands_for rules t → DoesSo s r a b listing
+    listed_so put r on p under_way =
+        does_put s listing put r t a b (lines_at a.out.column told) on
+        (λ z. ap listing (sym (same z)) ∙ ap (λ ls. writes (lines_at a.out.column ls) (come t z)) (sym (is z))) p under_way
+
+    pub listed_as : {X : Type 0} (done : Result X Ending) (r : Result (Session M H) Ending) → MatchResult done (λ _. r ≡ Ok t) (λ f. r ≡ Err f) → ends_unread done ≡ false
+        → ((k : Meant) → Performs (λ _. k) of_ending done a b (lists a.out.column told k)) → IsUnderWay stored stands_for rules t → DoesSo s r a b listing
+    listed_as (Ok x) r on quiet p under_way =
+        let P : Result (Session M H) Ending → Type 0 = λ r. DoesSo s r a b listing in subst P (sym on) (listed (p (come t (record { bytes = []; fails = false }))).1 under_way)
+    listed_as (Err f) r on quiet p under_way =
+        let P : Result (Session M H) Ending → Type 0 = λ r. DoesSo s r a b listing in subst P (sym on) (given_up f quiet p)
 
 -- ---- commands
 

@@ -1,7 +1,7 @@
 -- Productions by their names, and their breaks.
 use Rattle.std.proofs.Common.{◌≡◌, ◌∙◌, ap, sym, refl, ℕ, suc, ◌+◌, ◌≤◌, ◌<◌, List, [], ◌∷◌, ◌++◌, map, replicate, length, drop, get_or, find, Bool, true, false, cond, not, ◌==◌, unwrap_or, option_map, Option, Some, None, is_some, subst, arith}
 use Rattle.std.specs.List.{list_all}
-use Rattle.std.proofs.lemmas.Bool.{and_parts, leb-true}
+use Rattle.std.proofs.lemmas.Bool.{and_parts, eqb-true, leb-true}
 use Rattle.std.proofs.lemmas.List.{drop_more}
 use Rattle.ops_base.specs.declared.commands.Command.{Command}
 use Rattle.ops_base.specs.declared.elements.Class.{Class}
@@ -89,3 +89,9 @@ pub breaks_some : (s : Setting) (column : ℕ) (given : List Sym) (k : Session) 
     → breaks_given s column given k ≡ writes (lines_at column (map (unknown_line k.course.names) (unknown_of s.rules given))) (record k { breaks = all_toggled s.rules given k.breaks })
 breaks_some s column [] k some = cc
 breaks_some s column (n ∷ ns) k some = refl
+
+-- where none is given, those that have a break are listed
+pub breaks_none : (s : Setting) (column : ℕ) (given : List Sym) (k : Session) → (length given == 0) ≡ true
+    → breaks_given s column given k ≡ writes (lines_at column (break_lines k.course.names k.breaks 0 s.rules)) k
+breaks_none s column [] k none = refl
+breaks_none s column (n ∷ ns) k none = absurd (let e = eqb-true (length (n ∷ ns)) 0 none in omega (arith, e))

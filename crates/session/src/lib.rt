@@ -8,6 +8,7 @@
 //! itself, so that a contract can name what each holds afterwards. What no command changes goes in one `SessionContext`.
 #![tactic(auto)]
 
+mod after;
 mod bounds;
 mod changes;
 mod commands;

@@ -12,6 +12,7 @@ ghost use Rattle.conflict_index.specs.Indexed.{KeepsSpecificities};
 ghost use Rattle.session.specs.Courses.{IsUnderWay, ends_unread, standing_in};
 ghost use Rattle.session.specs.Deeds.{Does};
 
+use crate::after::{after_listing, after_write};
 use crate::session::Session;
 use conflict_index::Index;
 use ops_base::commands::Fixed;
@@ -109,15 +110,9 @@ pub(crate) fn list_elements<M: Matcher, K: Sink>(
         (port (K.taken sink.new) (K.faults sink.new) out.new)
         (λ k. lists out.old.column (element_lines k.course.names program.now.classes (elements_listed k.course.wm tags.now)) k) }
 {
-    put_elements(
-        out,
-        sink,
-        names,
-        program,
-        session.state.store(),
-        tags.as_slice(),
-    )?;
-    Ok(session)
+    let tags = tags.as_slice();
+    let put = put_elements(out, sink, names, program, session.state.store(), tags);
+    after_write(session, put)
 }
 
 /// The value at a place of these, `nil` past the end.
@@ -227,8 +222,8 @@ pub(crate) fn list_met<M: Matcher, K: Sink>(
         (port (K.taken sink.new) (K.faults sink.new) out.new)
         (λ k. lists out.old.column (element_lines k.course.names program.now.classes (filter (meets pattern.now) k.course.wm)) k) }
 {
-    put_met(out, sink, names, program, session.state.store(), pattern)?;
-    Ok(session)
+    let put = put_met(out, sink, names, program, session.state.store(), pattern);
+    after_write(session, put)
 }
 
 /// Puts the lines of the instantiations that have not fired, the dominant one first. Takes no memory, and a time in
@@ -273,6 +268,6 @@ pub(crate) fn list_standing<M: Matcher, K: Sink>(
         (λ k. lists out.old.column (map (inst_text k.course.names program.now.rules)
         (standing_by (conflict_set program.now.rules) program.now.rules k.course)) k) }
 {
-    put_standing(out, sink, names, program, session.state.index())?;
-    Ok(session)
+    let done = put_standing(out, sink, names, program, session.state.index());
+    after_listing(session, done)
 }

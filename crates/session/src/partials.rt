@@ -10,6 +10,7 @@ ghost use Rattle.ops_meaning.specs.Running.{Session as Meant, lists, matches_tol
 ghost use Rattle.session.specs.Courses.{IsUnderWay, ends_unread};
 ghost use Rattle.session.specs.Deeds.{Does, PutsOrStops};
 
+use crate::after::after_listing;
 use crate::session::Session;
 use live_rules::rule_named;
 use ops_base::elements::Element;
@@ -195,14 +196,7 @@ pub(crate) fn list_matches<M: Matcher, K: Sink>(
         (λ k. lists out.old.column (flat_map (matches_told k.course.names program.now.rules k.course.wm) given.now) k) }
 {
     let given = given.as_slice();
-    put_matches(
-        alloc,
-        names,
-        program,
-        session.state.store(),
-        given,
-        out,
-        sink,
-    )?;
-    Ok(session)
+    let store = session.state.store();
+    let done = put_matches(alloc, names, program, store, given, out, sink);
+    after_listing(session, done)
 }

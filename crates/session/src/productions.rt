@@ -8,6 +8,7 @@ ghost use Rattle.act_phase.specs.Outcomes.{setting_of};
 ghost use Rattle.session.specs.Courses.{IsUnderWay};
 ghost use Rattle.session.specs.Deeds.{Does};
 
+use crate::after::after_write;
 use crate::runs::has_break;
 use crate::session::Session;
 use live_rules::rule_named;
@@ -94,8 +95,8 @@ pub(crate) fn list_productions<M: Matcher, K: Sink>(
         (port (K.taken sink.new) (K.faults sink.new) out.new)
         (λ k. lists out.old.column (map (production_line (setting_of program.now 0) k.course.names) given.now) k) }
 {
-    put_productions(out, sink, names, program, given.as_slice())?;
-    Ok(session)
+    let put = put_productions(out, sink, names, program, given.as_slice());
+    after_write(session, put)
 }
 
 /// Puts the line of a production, where it has a break.
@@ -222,11 +223,11 @@ pub(crate) fn give_breaks<M: Matcher, K: Sink>(
 {
     let given = given.as_slice();
     if given.is_empty() {
-        put_breaks(out, sink, names, program, session.breaks.as_slice())?;
-        return Ok(session);
+        let put = put_breaks(out, sink, names, program, session.breaks.as_slice());
+        return after_write(session, put);
     }
-    put_unknown(out, sink, names, program, given)?;
+    let put = put_unknown(out, sink, names, program, given);
     let mut session = session;
     session.breaks = toggle_all(program.rules.as_slice(), given, session.breaks);
-    Ok(session)
+    after_write(session, put)
 }

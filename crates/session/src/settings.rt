@@ -8,6 +8,7 @@ ghost use Rattle.ops_meaning.specs.Running.{level_given, strategy_given};
 ghost use Rattle.session.specs.Courses.{IsUnderWay};
 ghost use Rattle.session.specs.Deeds.{Does};
 
+use crate::after::after_write;
 use crate::session::Session;
 use ops_base::commands::Strategy;
 use ops_base::endings::Ending;
@@ -47,8 +48,9 @@ pub(crate) fn give_strategy<M: Matcher, K: Sink>(
             Ok(session)
         }
         None => {
-            put_line(out, sink, strategy_line(session.state.index().strategy()))?;
-            Ok(session)
+            let line = strategy_line(session.state.index().strategy());
+            let put = put_line(out, sink, line);
+            after_write(session, put)
         }
     }
 }
@@ -75,8 +77,8 @@ pub(crate) fn give_level<M: Matcher, K: Sink>(
             Ok(session)
         }
         None => {
-            put_number_line(out, sink, b"watch ", u64::from(session.watch))?;
-            Ok(session)
+            let put = put_number_line(out, sink, b"watch ", u64::from(session.watch));
+            after_write(session, put)
         }
     }
 }
