@@ -495,3 +495,53 @@ module _ (W w : List Element) (first : ℕ) (before : List Change) where
         ap (λ d. told_as left_by (λ f. f) (actions_done s column 1 actions d)) begun_over
         ∙ ap (λ b. whole b (outcome_as left_by (λ f. f) (actions_done s column 1 actions (over (begun s i (given w)))).outcome)) p.bytes
         ∙ ap (λ o. whole e.bytes o) (left_same over Alike left_by (λ f. f) (λ d. refl) (actions_done s column 1 actions (over (begun s i (given w)))).outcome e.outcome p.outcome)
+
+-- ---- from one action to the next
+
+-- what leaves the second leaves is so
+same_left : {E S : Type 0} (lift : S → S) (P : S → Type 0) (x y : Result S E) (s : S) → Same lift P x y → y ≡ Ok s → P s
+same_left lift P (Ok x) (Ok y) s p is = let same : y ≡ s = cc in subst P same p.1
+same_left lift P (Err e) (Err f) s p is = absurd (cc)
+same_left lift P (Ok x) (Err f) s p is = absurd p
+same_left lift P (Err e) (Ok y) s p is = absurd p
+
+untold : {E F S : Type 0} (end : E → F) (o : Result S E) (s : S) → outcome_as (λ d. d) end o ≡ Ok s → o ≡ Ok s
+untold end (Ok x) s is = let same : x ≡ s = cc in ap (λ x. Ok x) same
+untold end (Err e) s is = absurd (cc)
+
+module _ (W w : List Element) (first : ℕ) where
+  cells_from : (a b : List Change) (cells : List Element) → CellsAlike W w first a cells → CellsAlike W w first b cells
+  cells_from a b [] p = tt
+  cells_from a b (e ∷ cells) p = (p.0, cells_from a b cells p.1)
+
+  gone_from : (a b cs : List Change) → GoneAlike W w first a cs → GoneAlike W w first b cs
+  gone_from a b [] p = tt
+  gone_from a b (change.Add e ∷ cs) p = gone_from a b cs p
+  gone_from a b (change.Remove t ∷ cs) p = (p.0, gone_from a b cs p.1)
+
+  -- the changes go on from other ones
+  alike_from : (a b : List Change) (d : ActState) → Alike W w first a d → (more : List Change) → d.changes ≡ b ++ more → Alike W w first b d
+  alike_from a b d p more grown = record {
+    wm = p.wm;
+    lawful = p.lawful;
+    last = p.last;
+    more = more;
+    grown = grown;
+    none = p.none;
+    fresh = p.fresh;
+    cells = cells_from a b d.cells p.cells;
+    made = p.made;
+    gone = gone_from a b d.changes p.gone;
+  }
+
+  -- An action that is done over the one goes on lawfully over the other.
+  pub action_goes : (s : Setting) (column n : ℕ) (a : Action) (d next : ActState) → Alike W w first [] d → outcome_as (λ d. d) (in_action n) (action_done s column a d).outcome ≡ Ok next
+      → Alike W w first [] next × ((more : List Change) × (next.changes ≡ d.changes ++ more))
+  action_goes s column n a d next p is =
+      let from = alike_from [] d.changes d p [] (sym (append-nil d.changes)) in
+      let q = same_left (over W w first d.changes) (Alike W w first d.changes) _ (action_done s column a d).outcome next (action_alike W w first d.changes s column a d from).outcome (untold (in_action n) (action_done s column a d).outcome next is) in
+      (alike_from d.changes [] next q next.changes refl, q.more, q.grown)
+
+  -- it doesn't hang on the names and on the input
+  pub alike_by : (names other : Spellings) (coming more : Coming) (d : ActState) → Alike W w first [] (record d { names = names; coming = coming }) → Alike W w first [] (record d { names = other; coming = more })
+  alike_by names other coming more d p = alike_with W w first [] (record d { names = names; coming = coming }) other more p

@@ -11,6 +11,7 @@ pub mod Enough
 pub mod Evaluating
 pub mod Following
 pub mod Found
+pub mod Going
 pub mod Held
 pub mod HeldDoings
 pub mod ItemLemmas
