@@ -1,0 +1,2 @@
+-- Networks of which the front was there before.
+pub mod Fronts
