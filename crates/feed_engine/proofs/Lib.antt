@@ -1,1 +1,5 @@
 pub mod Combined
+pub mod Going
+pub mod Grown
+pub mod Pieces
+pub mod Told

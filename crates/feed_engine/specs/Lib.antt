@@ -1,0 +1,2 @@
+-- What the contracts of a phase that settles several times cite.
+pub mod Feeding
