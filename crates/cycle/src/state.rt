@@ -284,42 +284,6 @@ impl<M: Matcher> State<M> {
         self.index.as_ref().select()
     }
 
-    /// One phase, and what was found before it and is not found after it.
-    fn phase<H: Fn(M, &[Change]) -> Result<Settled<M>, OutOfMemory>>(
-        self,
-        hand: &H,
-        program: &Program,
-        changes: &[Change],
-    ) -> Result<(State<M>, Listed<Inst>), OutOfMemory>
-        requires settles { Settles M.stored M.found M.stands_for (λ m cs. H.pre hand.now m cs) (λ m cs r. H.post hand.now m cs r) }
-        requires stands { M.stands_for self.matcher program.now.rules }
-        requires specificities { KeepsSpecificities program.now.rules self.index.members }
-        requires lawful { Lawful (M.stored self.matcher).elements (M.stored self.matcher).last changes.now }
-        ensures course { IfOk result (λ r. (names : Spellings) (coming : Coming) → state_course M.stored r.0 names coming
-            ≡ phase_by (conflict_set program.now.rules) changes.now self.firings (last_after (M.stored self.matcher).last changes.now) (state_course M.stored self names coming)) }
-        ensures marks { IfOk result (λ r. fired_of r.0.index.members ≡ without_gone r.1 (fired_of self.index.members)) }
-        ensures stands { IfOk result (λ r. M.stands_for r.0.matcher program.now.rules) }
-        ensures specificities { IfOk result (λ r. KeepsSpecificities program.now.rules r.0.index.members) }
-    {
-        let State {
-            matcher,
-            index,
-            firings,
-        } = self;
-        let Settled {
-            matcher,
-            come,
-            gone,
-        } = settled_by(hand, matcher, changes)?;
-        // the matcher is looked at for what it keeps true
-        let _last = last_of(&matcher);
-        let mut index = index;
-        index
-            .as_mut()
-            .apply(program, gone.as_slice(), come.as_slice())?;
-        Ok((State::of(matcher, index, firings), Listed::from_vec(gone)))
-    }
-
     /// Does changes in their order, which is one phase: the matcher settles once, and the index takes in what that
     /// tells. After a refusal the state is gone.
     pub fn change<H: Fn(M, &[Change]) -> Result<Settled<M>, OutOfMemory>>(
@@ -337,8 +301,23 @@ impl<M: Matcher> State<M> {
         ensures stands { IfOk result (λ s. M.stands_for s.matcher program.now.rules) }
         ensures specificities { IfOk result (λ s. KeepsSpecificities program.now.rules s.index.members) }
     {
-        let (state, _gone) = self.phase(hand, program, changes)?;
-        Ok(state)
+        let State {
+            matcher,
+            index,
+            firings,
+        } = self;
+        let Settled {
+            matcher,
+            come,
+            gone,
+        } = settled_by(hand, matcher, changes)?;
+        // the matcher is looked at for what it keeps true
+        let _last = last_of(&matcher);
+        let mut index = index;
+        index
+            .as_mut()
+            .apply(program, gone.as_slice(), come.as_slice())?;
+        Ok(State::of(matcher, index, firings))
     }
 
     /// This one fires: it is marked, and one firing more is counted.

@@ -21,7 +21,7 @@ use Rattle.ops_grammar.specs.declared.words.Word.{Word}
 use Rattle.ops_grammar.specs.declared.words.Keyword.{Keyword}
 use Rattle.ops_grammar.specs.declared.words.Keyword.TheVariants as keyword
 use Rattle.ops_grammar.specs.Words.{keyword_of, names_with, word_of, keyword_before, word_before, words_from}
-use Rattle.ops_grammar.specs.Grammar.{Use, InPattern, InPut, InFixed, Target, ToPut, ToTerms, ToConstants, ToItem, ToBind, TagUse, ToRemove, NameUse, Column, Wanted, Forms, Form, ClassDeclared, Attributes, VectorName, VectorNames, RuleName, FirstPattern, Patterns, Pattern, GroupBrace, Members, Braced, ElementName, ClosesBrace, ClassName, Terms, Attribute, Several, Place, Tests, Tested, Choice, Atom, ValueFor, Function, ExpressionUnit, ExpressionRest, Bracketed, SourceCell, SourceAttribute, SourceEnd, Actions, ActionWord, Modified, BoundName, BoundValue, CellName, Cell, Cells, Items, ItemWord, Columns, Count, StrategyName, TagOrAll, Tags, Shown, NamedRule, NamedRules, Level, Closes, State, Step, Next, Refuses, Outcome, is_left, is_right, is_left_brace, is_right_brace, is_caret, is_name, is_variable, is_arrow, is_literal, is_minus, begins_group, has_room, opens_choice, closes_choice, pred_of, constant_of, value_of, atom_of, is_one_of, number_of, bound_value, EndsWhole, may_declare, is_class, is_rule, is_second, makes_second, vector_declared, vector_name, form, class_at, attributes_of, behind_attribute, field_at, terms, within, one_of_several, with_several, place, element_at, element_name, cell_bound, variable_tested, constant_tested, tested, predicated, test, chosen, atom_at, term_at, bound_at, constant_at, is_of_action, value_for, Waiting, most_brackets, is_compute, operation_of, unit_bound, unit_at, bracket_at, expression_unit, bracketed, operation_at, expression_ended, with_formula, no_formula, expression_rest, completed, function, source_named, source_cell, source_class, source_at, source_attribute, takes_several, is_inf, ends_at_inf, source_end, action_word, cell_of, with_designated, with_modified, small_of, item_word, columns_at, count_of, counted, count, strategy_of, strategy_set, strategy_name, is_all, tag_at, tag_or_all, tags, class_name, shown, named_rule, named_rules, level_of, level_set, level, step, ends, after, goes}
+use Rattle.ops_grammar.specs.Grammar.{Use, InPattern, InPut, InFixed, Target, ToPut, ToTerms, ToConstants, ToItem, ToBind, TagUse, ToRemove, NameUse, Column, Wanted, Forms, Form, ClassDeclared, Attributes, VectorName, VectorNames, RuleName, FirstPattern, Patterns, Pattern, GroupBrace, Members, Braced, ElementName, ClosesBrace, ClassName, Terms, Attribute, Several, Place, Tests, Tested, Choice, Atom, ValueFor, Function, ExpressionUnit, ExpressionRest, Bracketed, SourceCell, SourceAttribute, SourceEnd, Actions, ActionWord, Modified, BoundName, BoundValue, CellName, Cell, Cells, Items, ItemWord, Columns, Count, StrategyName, TagOrAll, Tags, Shown, NamedRule, NamedRules, Level, Undone, Closes, State, Step, Next, Refuses, Outcome, is_left, is_right, is_left_brace, is_right_brace, is_caret, is_name, is_variable, is_arrow, is_literal, is_minus, begins_group, has_room, opens_choice, closes_choice, pred_of, constant_of, value_of, atom_of, is_one_of, number_of, bound_value, EndsWhole, may_declare, is_class, is_rule, is_second, makes_second, vector_declared, vector_name, form, class_at, attributes_of, behind_attribute, field_at, terms, within, one_of_several, with_several, place, element_at, element_name, cell_bound, variable_tested, constant_tested, tested, predicated, test, chosen, atom_at, term_at, bound_at, constant_at, is_of_action, value_for, Waiting, most_brackets, is_compute, operation_of, unit_bound, unit_at, bracket_at, expression_unit, bracketed, operation_at, expression_ended, with_formula, no_formula, expression_rest, completed, function, source_named, source_cell, source_class, source_at, source_attribute, takes_several, is_inf, ends_at_inf, source_end, action_word, cell_of, with_designated, with_modified, small_of, item_word, columns_at, count_of, counted, count, strategy_of, strategy_set, strategy_name, is_all, tag_at, tag_or_all, tags, class_name, shown, named_rule, named_rules, level_of, undone_of, level_set, undone_set, level, undone, step, ends, after, goes}
 use Rattle.ops_forms.specs.Forms.{open_behind, is_last, closes_last, stays_open, opens}
 
 -- ---- what is owed
@@ -51,6 +51,7 @@ owes (Tags u) = true
 owes Shown = true
 owes (NamedRules u) = true
 owes Level = true
+owes Undone = true
 owes (Closes e) = true
 owes _ = false
 
@@ -101,6 +102,7 @@ in_form_owes (Tags u ∷ ws) i h = omega arith
 in_form_owes (Shown ∷ ws) i h = omega arith
 in_form_owes (NamedRules u ∷ ws) i h = omega arith
 in_form_owes (Level ∷ ws) i h = omega arith
+in_form_owes (Undone ∷ ws) i h = omega arith
 in_form_owes (Closes e ∷ ws) i h = omega arith
 in_form_owes (ClassDeclared ∷ ws) i h = let p = and_parts (in_form ws) (stands ws) h in in_form_owes ws p.0 p.1
 in_form_owes (VectorName ∷ ws) i h = let p = and_parts (in_form ws) (stands ws) h in in_form_owes ws p.0 p.1
@@ -199,6 +201,10 @@ level_keeps : (k : TokenKind) (m n : ℕ) → level_of k ≡ Some m → open_beh
 level_keeps (kind.Whole z) m n e = refl
 level_keeps _ m n e = absurd (cc)
 
+undone_keeps : (k : TokenKind) (m n : ℕ) → undone_of k ≡ Some m → open_behind n k ≡ n
+undone_keeps (kind.Whole z) m n e = refl
+undone_keeps _ m n e = absurd (cc)
+
 -- ---- keywords that are there
 
 literal_known : (k : Keyword) → is_literal k ≡ true → k ≡ keyword.Other → ⊥
@@ -279,6 +285,7 @@ module _ (w : Word) (quiet : (n : ℕ) → (w.keyword ≡ keyword.Other → ⊥)
   form_balanced keyword.Pm ws s e h = (h, sym (quiet (1 + owed ws) (λ o. absurd (cc))))
   form_balanced keyword.Strategy ws s e h = (h, sym (quiet (1 + owed ws) (λ o. absurd (cc))))
   form_balanced keyword.Watch ws s e h = (h, sym (quiet (1 + owed ws) (λ o. absurd (cc))))
+  form_balanced keyword.Back ws s e h = (h, sym (quiet (1 + owed ws) (λ o. absurd (cc))))
   form_balanced keyword.Pbreak ws s e h = (h, sym (quiet (1 + owed ws) (λ o. absurd (cc))))
   form_balanced keyword.Excise ws s e h = (h, sym (quiet (1 + owed ws) (λ o. absurd (cc))))
   form_balanced keyword.Matches ws s e h = (h, sym (quiet (1 + owed ws) (λ o. absurd (cc))))
@@ -538,9 +545,17 @@ module _ (w : Word) (quiet : (n : ℕ) → (w.keyword ≡ keyword.Other → ⊥)
   level_set_balanced (Some n) ws s e h = (h, sym (level_keeps w.kind n (1 + owed ws) e))
   level_set_balanced None ws s e h = tt
 
+  undone_set_balanced : (o : Option ℕ) (ws : List Wanted) (s : State) → undone_of w.kind ≡ o → stands ws ≡ true → B (Undone ∷ ws) (undone_set o ws s)
+  undone_set_balanced (Some n) ws s e h = (h, sym (undone_keeps w.kind n (1 + owed ws) e))
+  undone_set_balanced None ws s e h = tt
+
   level_balanced : (ws : List Wanted) (s : State) → stands ws ≡ true → B (Level ∷ ws) (level w ws s)
   level_balanced ws s h =
       cond_both (is_right w.kind) _ _ (B (Level ∷ ws)) (λ e. (h, closed ws e)) (λ _. level_set_balanced (level_of w.kind) ws s refl h)
+
+  undone_balanced : (ws : List Wanted) (s : State) → stands ws ≡ true → B (Undone ∷ ws) (undone w ws s)
+  undone_balanced ws s h =
+      cond_both (is_right w.kind) _ _ (B (Undone ∷ ws)) (λ e. (h, closed ws e)) (λ _. undone_set_balanced (undone_of w.kind) ws s refl h)
 
   -- ---- the places and values of a vector attribute
 
@@ -669,6 +684,7 @@ module _ (w : Word) (quiet : (n : ℕ) → (w.keyword ≡ keyword.Other → ⊥)
   step_balanced (NamedRule ∷ ws) s h = named_rule_balanced ws s (and_parts (in_form ws) (stands ws) h).1
   step_balanced (NamedRules u ∷ ws) s h = named_rules_balanced u ws s h
   step_balanced (Level ∷ ws) s h = level_balanced ws s h
+  step_balanced (Undone ∷ ws) s h = undone_balanced ws s h
   step_balanced (Closes x ∷ ws) s h = cond_both (is_right w.kind) _ _ (B (Closes x ∷ ws)) (λ e. (h, closed ws e)) (λ _. tt)
 
 -- ---- where the words end

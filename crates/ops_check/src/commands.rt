@@ -1,12 +1,12 @@
 //! The commands of one word, and those of one word and an argument.
-ghost use Rattle.ops_grammar.specs.Grammar.{Count, StrategyName, Level, Closes, EndsCs, EndsExit};
+ghost use Rattle.ops_grammar.specs.Grammar.{Count, StrategyName, Level, Undone, Closes, EndsCs, EndsExit};
 ghost use Rattle.ops_forms.specs.WordWalks.{Reads, IsWithin};
 ghost use Rattle.ops_check.specs.Walks.{view};
 
 use crate::draft::Draft;
 use ops_base::commands::Command;
 use ops_base::endings::Fault;
-use ops_forms::kinds::{count_of, is_right, level_of, strategy_of};
+use ops_forms::kinds::{count_of, is_right, level_of, strategy_of, undone_of};
 use ops_forms::refusals::{Refusal, closing, first_of, refused};
 use ops_grammar::Word;
 
@@ -65,6 +65,24 @@ impl Draft {
         };
         let set = Some(level);
         self.add_command(Command::Watch { set })?;
+        closing(rest)
+    }
+
+    // UNDONE ) | )
+    #[tactic(auto, unfolding(ops_grammar::specs::Grammar::goes, ops_grammar::specs::Grammar::step, ops_grammar::specs::Grammar::ends))]
+    pub(crate) fn back<'a>(&mut self, words: &'a [Word]) -> Result<&'a [Word], Refusal>
+        ensures reads { Reads Undone (view self.old) (view self.new) words.now result }
+        ensures within { IsWithin words.now result }
+    {
+        let (word, rest) = first_of(words)?;
+        if is_right(word.kind) {
+            self.add_command(Command::Back { count: 1 })?;
+            return Ok(rest);
+        }
+        let Some(count) = undone_of(word.kind) else {
+            return refused(Fault::BadForm, word);
+        };
+        self.add_command(Command::Back { count })?;
         closing(rest)
     }
 }

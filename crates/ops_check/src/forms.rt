@@ -34,7 +34,7 @@ impl Draft {
     // | make CLASS fixed* ) | remove NAT NAT* ) | remove * )
     // | run [NAT] ) | wm NAT* ) | ppwm ) | ppwm CLASS fixed* ) | cs ) | pm NAME NAME* )
     // | strategy ) | strategy lex ) | strategy mea ) | watch ) | watch 0 ) | watch 1 ) | watch 2 ) | pbreak NAME* )
-    // | excise NAME NAME* ) | matches NAME NAME* ) | exit )
+    // | excise NAME NAME* ) | matches NAME NAME* ) | back [UNDONE] ) | exit )
     #[tactic(auto, unfolding(ops_grammar::specs::Grammar::goes, ops_grammar::specs::Grammar::step, ops_grammar::specs::Grammar::ends))]
     fn form<'a>(&mut self, words: &'a [Word]) -> Result<&'a [Word], Refusal>
         ensures reads { Reads Form (view self.old) (view self.new) words.now result }
@@ -67,6 +67,7 @@ impl Draft {
             Keyword::Pbreak => self.pbreak(rest),
             Keyword::Excise => self.excise(rest),
             Keyword::Matches => self.matches(rest),
+            Keyword::Back => self.back(rest),
             Keyword::Exit => self.exit(rest),
             _ => refused(Fault::UnknownCommand, word),
         }

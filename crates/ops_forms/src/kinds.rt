@@ -1,6 +1,6 @@
 //! What a word may be where something is wanted.
 ghost use Rattle.std.specs.Prelude.{◌≡◌, ◌||◌};
-ghost use Rattle.ops_grammar.specs.Grammar.{is_left, is_right, is_left_brace, is_right_brace, is_caret, is_name, is_variable, is_arrow, is_literal, is_minus, begins_group, opens_choice, closes_choice, is_inf, is_compute, operation_of, pred_of, constant_of, atom_of, value_of, natural_of, small_of, count_of, strategy_of, is_all, level_of};
+ghost use Rattle.ops_grammar.specs.Grammar.{is_left, is_right, is_left_brace, is_right_brace, is_caret, is_name, is_variable, is_arrow, is_literal, is_minus, begins_group, opens_choice, closes_choice, is_inf, is_compute, operation_of, pred_of, constant_of, atom_of, value_of, natural_of, small_of, count_of, strategy_of, is_all, level_of, undone_of};
 
 use ops_base::commands::Strategy;
 use ops_base::expression::Op;
@@ -248,6 +248,19 @@ pub fn level_of(kind: TokenKind) -> Option<u8>
     };
     match u8::try_from(number) {
         Ok(level) if level <= 2 => Some(level),
+        _ => None,
+    }
+}
+
+/// How many firings `back` undoes, which a whole number from 1 to 32 is.
+pub fn undone_of(kind: TokenKind) -> Option<u8>
+    ensures { result ≡ undone_of kind }
+{
+    let TokenKind::Whole(number) = kind else {
+        return None;
+    };
+    match u8::try_from(number) {
+        Ok(count) if 1 <= count && count <= 32 => Some(count),
         _ => None,
     }
 }

@@ -230,6 +230,8 @@ fn keyword_of_command(spelling: &[u8]) -> Keyword
         Keyword::Excise
     } else if is(spelling, b"matches") {
         Keyword::Matches
+    } else if is(spelling, b"back") {
+        Keyword::Back
     } else if is(spelling, b"exit") {
         Keyword::Exit
     } else {

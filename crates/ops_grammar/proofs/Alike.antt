@@ -15,7 +15,7 @@ use Rattle.ops_tokens.specs.declared.token.TokenKind.TheVariants as kind
 use Rattle.ops_grammar.specs.declared.words.Word.{Word}
 use Rattle.ops_grammar.specs.declared.words.Keyword.{Keyword}
 use Rattle.ops_grammar.specs.declared.words.Keyword.TheVariants as keyword
-use Rattle.ops_grammar.specs.Grammar.{Use, InPattern, InPut, InFixed, Target, ToTest, ToTerms, ToConstants, ToItem, ToBind, EndsWhole, Wanted, Forms, Form, ClassDeclared, Attributes, VectorName, VectorNames, RuleName, FirstPattern, Patterns, Pattern, Braced, ElementName, ClosesBrace, ClassName, Terms, Attribute, Several, Place, Tests, Tested, Choice, Atom, ValueFor, Function, Waiting, ExpressionUnit, ExpressionRest, Bracketed, SourceCell, SourceAttribute, SourceEnd, Actions, ActionWord, Modified, BoundName, BoundValue, CellName, Cell, Cells, Items, ItemWord, Columns, Count, StrategyName, TagOrAll, Tags, Shown, NamedRule, NamedRules, Level, Closes, State, Step, Next, Refuses, is_left, is_right, is_left_brace, is_right_brace, is_caret, is_literal, is_inf, opens_choice, closes_choice, pred_of, with_write, with_constant, constant_of, value_of, atom_of, form, constant_tested, tested, predicated, test, place, chosen, atom_at, constant_at, is_of_action, value_for, number_of, with_bind, most_brackets, completed, unit_bound, unit_at, bracket_at, expression_unit, is_compute, operation_of, operation_at, expression_ended, source_class, terms, within, one_of_several, with_several, step, Members, GroupBrace}
+use Rattle.ops_grammar.specs.Grammar.{Use, InPattern, InPut, InFixed, Target, ToTest, ToTerms, ToConstants, ToItem, ToBind, EndsWhole, Wanted, Forms, Form, ClassDeclared, Attributes, VectorName, VectorNames, RuleName, FirstPattern, Patterns, Pattern, Braced, ElementName, ClosesBrace, ClassName, Terms, Attribute, Several, Place, Tests, Tested, Choice, Atom, ValueFor, Function, Waiting, ExpressionUnit, ExpressionRest, Bracketed, SourceCell, SourceAttribute, SourceEnd, Actions, ActionWord, Modified, BoundName, BoundValue, CellName, Cell, Cells, Items, ItemWord, Columns, Count, StrategyName, TagOrAll, Tags, Shown, NamedRule, NamedRules, Level, Undone, Closes, State, Step, Next, Refuses, is_left, is_right, is_left_brace, is_right_brace, is_caret, is_literal, is_inf, opens_choice, closes_choice, pred_of, with_write, with_constant, constant_of, value_of, atom_of, form, constant_tested, tested, predicated, test, place, chosen, atom_at, constant_at, is_of_action, value_for, number_of, with_bind, most_brackets, completed, unit_bound, unit_at, bracket_at, expression_unit, is_compute, operation_of, operation_at, expression_ended, source_class, terms, within, one_of_several, with_several, step, Members, GroupBrace}
 use Rattle.ops_grammar.specs.Derivation.{is_no_form}
 use Rattle.ops_grammar.specs.Spelling.{spelled_name}
 use Rattle.ops_grammar.specs.Words.{keyword_of_symbol, has_name}
@@ -262,6 +262,7 @@ moved-alike w first past Shown ws s e = refl
 moved-alike w first past NamedRule ws s e = refl
 moved-alike w first past (NamedRules u) ws s e = refl
 moved-alike w first past Level ws s e = refl
+moved-alike w first past Undone ws s e = refl
 moved-alike w first past (Closes x) ws s e = refl
 
 -- ---- how many brackets are open

@@ -27,7 +27,7 @@ use Rattle.ops_tokens.specs.declared.token.TokenKind.TheVariants as kind
 use Rattle.ops_grammar.specs.declared.words.Word.{Word}
 use Rattle.ops_grammar.specs.declared.words.Keyword.{Keyword}
 use Rattle.ops_grammar.specs.declared.words.Keyword.TheVariants as keyword
-use Rattle.ops_grammar.specs.Grammar.{Use, InPattern, InPut, InFixed, Target, ToTest, ToPut, ToFixed, ToTerms, ToConstants, ToItem, ToBind, Ends, EndsHalt, EndsCrlf, EndsCs, EndsExit, EndsWhole, Column, TagUse, ToRemove, NameUse, Wanted, Forms, Form, ClassDeclared, Attributes, VectorName, VectorNames, RuleName, FirstPattern, Patterns, Pattern, Braced, ElementName, ClosesBrace, ClassName, Terms, Attribute, Several, Place, Tests, Tested, Choice, Atom, ValueFor, Function, ExpressionUnit, ExpressionRest, Bracketed, SourceCell, SourceAttribute, SourceEnd, Actions, ActionWord, Modified, BoundName, BoundValue, CellName, Cell, Cells, Items, ItemWord, Columns, Count, StrategyName, TagOrAll, Tags, Shown, NamedRule, NamedRules, Level, Closes, State, Step, Next, Refuses, is_left, is_right, is_left_brace, is_right_brace, is_caret, is_name, is_variable, is_arrow, is_literal, is_minus, opens_choice, closes_choice, pred_of, constant_of, atom_of, value_of, small_of, is_one_of, number_of, may_declare, is_class, is_rule, form, class_declared, arranged, has_vector, with_class, is_second, attribute_declared, attributes, with_vector, makes_second, vector_declared, vector_name, class_at, class_name, attributes_of, behind_attribute, field_at, with_test, with_put, with_item, with_bind, with_constant, with_bound, variable_tested, constant_tested, tested, predicated, test, place, tests, with_choice, chosen, choice, atom_at, term_at, bound_at, constant_at, is_of_action, value_for, function, no_formula, with_formula, most_brackets, completed, is_compute, operation_of, unit_bound, unit_at, expression_unit, bracketed, operation_at, expression_ended, expression_rest, Waiting, source_named, source_cell, source_class, source_at, source_attribute, takes_several, ends_at_inf, source_end, with_element, terms, within, one_of_several, with_several, several, left_begun, left_ended, right_begun, rule_name, first_pattern, one_more, more_patterns, patterns, element_at, element_name, braced, with_bound_element, with_rule, actions, action_word, with_designated, cell_of, classes_of_cells, with_modified, bound_name, bound_value, with_cell, cell_bound, cell_name, with_remove, cells, with_write, items, item_word, column_item, columns_at, ended, with_command, count_of, counted, count, strategy_of, strategy_set, strategy_name, tag_at, is_all, tag_or_all, with_tags, tags, shown, named_rule, with_named, named_rules, level_of, level_set, level, step, nothing_read, begins_group, GroupBrace, Members, members, with_group, with_member, with_one, has_room}
+use Rattle.ops_grammar.specs.Grammar.{Use, InPattern, InPut, InFixed, Target, ToTest, ToPut, ToFixed, ToTerms, ToConstants, ToItem, ToBind, Ends, EndsHalt, EndsCrlf, EndsCs, EndsExit, EndsWhole, Column, TagUse, ToRemove, NameUse, Wanted, Forms, Form, ClassDeclared, Attributes, VectorName, VectorNames, RuleName, FirstPattern, Patterns, Pattern, Braced, ElementName, ClosesBrace, ClassName, Terms, Attribute, Several, Place, Tests, Tested, Choice, Atom, ValueFor, Function, ExpressionUnit, ExpressionRest, Bracketed, SourceCell, SourceAttribute, SourceEnd, Actions, ActionWord, Modified, BoundName, BoundValue, CellName, Cell, Cells, Items, ItemWord, Columns, Count, StrategyName, TagOrAll, Tags, Shown, NamedRule, NamedRules, Level, Undone, Closes, State, Step, Next, Refuses, is_left, is_right, is_left_brace, is_right_brace, is_caret, is_name, is_variable, is_arrow, is_literal, is_minus, opens_choice, closes_choice, pred_of, constant_of, atom_of, value_of, small_of, is_one_of, number_of, may_declare, is_class, is_rule, form, class_declared, arranged, has_vector, with_class, is_second, attribute_declared, attributes, with_vector, makes_second, vector_declared, vector_name, class_at, class_name, attributes_of, behind_attribute, field_at, with_test, with_put, with_item, with_bind, with_constant, with_bound, variable_tested, constant_tested, tested, predicated, test, place, tests, with_choice, chosen, choice, atom_at, term_at, bound_at, constant_at, is_of_action, value_for, function, no_formula, with_formula, most_brackets, completed, is_compute, operation_of, unit_bound, unit_at, expression_unit, bracketed, operation_at, expression_ended, expression_rest, Waiting, source_named, source_cell, source_class, source_at, source_attribute, takes_several, ends_at_inf, source_end, with_element, terms, within, one_of_several, with_several, several, left_begun, left_ended, right_begun, rule_name, first_pattern, one_more, more_patterns, patterns, element_at, element_name, braced, with_bound_element, with_rule, actions, action_word, with_designated, cell_of, classes_of_cells, with_modified, bound_name, bound_value, with_cell, cell_bound, cell_name, with_remove, cells, with_write, items, item_word, column_item, columns_at, ended, with_command, count_of, counted, count, strategy_of, strategy_set, strategy_name, tag_at, is_all, tag_or_all, with_tags, tags, shown, named_rule, with_named, named_rules, level_of, undone_of, level_set, undone_set, level, undone, step, nothing_read, begins_group, GroupBrace, Members, members, with_group, with_member, with_one, has_room}
 use Rattle.ops_grammar.specs.Spelling.{unnamed, attribute_name, last_field}
 use Rattle.ops_grammar.proofs.PlainClasses.{IsArranged, IsAttributes, class_arranged, classes_arranged, attributes_begun, attribute_pushed}
 
@@ -141,6 +141,7 @@ module _ (w : Word) where
   form_stays keyword.Pm ws s h = h
   form_stays keyword.Strategy ws s h = h
   form_stays keyword.Watch ws s h = h
+  form_stays keyword.Back ws s h = h
   form_stays keyword.Pbreak ws s h = h
   form_stays keyword.Excise ws s h = h
   form_stays keyword.Matches ws s h = h
@@ -530,9 +531,17 @@ module _ (w : Word) where
   level_set_stays (Some n) ws s h = h
   level_set_stays None ws s h = tt
 
+  undone_set_stays : (o : Option ℕ) (ws : List Wanted) (s : State) → Rests ws s → StayArranged (undone_set o ws s)
+  undone_set_stays (Some n) ws s h = h
+  undone_set_stays None ws s h = tt
+
   level_stays : (ws : List Wanted) (s : State) → Rests ws s → StayArranged (level w ws s)
   level_stays ws s h =
       cond_both (is_right w.kind) _ _ StayArranged (λ _. rests ws (with_command s (command.Watch None)) h) (λ _. level_set_stays (level_of w.kind) ws s h)
+
+  undone_stays : (ws : List Wanted) (s : State) → Rests ws s → StayArranged (undone w ws s)
+  undone_stays ws s h =
+      cond_both (is_right w.kind) _ _ StayArranged (λ _. rests ws (with_command s (command.Back 1)) h) (λ _. undone_set_stays (undone_of w.kind) ws s h)
 
 pub stays_arranged : (w : Word) (ws : List Wanted) (s : State) → AreArranged ws s → StayArranged (step w ws s)
 unfolding step
@@ -589,4 +598,5 @@ stays_arranged w (Shown ∷ ws) s h = shown_stays w ws s h
 stays_arranged w (NamedRule ∷ ws) s h = named_rule_stays w ws s h
 stays_arranged w (NamedRules u ∷ ws) s h = named_rules_stay w u ws s h
 stays_arranged w (Level ∷ ws) s h = level_stays w ws s h
+stays_arranged w (Undone ∷ ws) s h = undone_stays w ws s h
 stays_arranged w (Closes e ∷ ws) s h = cond_both (is_right w.kind) _ _ StayArranged (λ _. ended_stays w e ws s h) (λ _. tt)

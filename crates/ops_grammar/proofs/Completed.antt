@@ -7,8 +7,8 @@ use Rattle.ops_tokens.specs.declared.token.TokenKind.TheVariants as kind
 use Rattle.ops_grammar.specs.declared.words.Word.{Word}
 use Rattle.ops_grammar.specs.declared.words.Keyword.{Keyword}
 use Rattle.ops_grammar.specs.declared.words.Keyword.TheVariants as keyword
-use Rattle.ops_grammar.specs.Grammar.{Use, InPattern, InPut, InFixed, Wanted, Forms, Form, ClassDeclared, Attributes, VectorName, VectorNames, RuleName, FirstPattern, Patterns, Pattern, Braced, ElementName, ClosesBrace, ClassName, Terms, Attribute, Several, Place, Tests, Tested, Choice, Atom, ValueFor, Function, ExpressionUnit, ExpressionRest, Bracketed, SourceCell, SourceAttribute, SourceEnd, Actions, ActionWord, Modified, BoundName, BoundValue, CellName, Cell, Cells, Items, ItemWord, Columns, Count, StrategyName, TagOrAll, Tags, Shown, NamedRule, NamedRules, Level, Closes, is_name, is_one_of, behind_attribute, GroupBrace, Members}
-use Rattle.ops_grammar.specs.Derivation.{with_name, Derives, nothing, no_form, a_class, no_attribute, a_vector, no_more_vectors, a_rule, a_first, a_whole_pattern, a_name_before, an_element_name, a_closed_brace, an_arrow, a_run, no_count, no_strategy_name, all_tags, no_more_tags, all_shown, a_named_rule, no_more_rules, no_level, a_class_name, no_term, a_scalar_attribute, a_vector_attribute, no_more_of_several, a_value, a_unit, a_bracketed_expression, no_operation, a_substr, a_source, a_source_attribute, the_same_again, an_atom, no_more_tests, an_operand, a_tested_operand, no_more_choices, no_action, to_halt, a_modified, a_bound_name, no_bound_value, a_cell_name, a_cell, no_more_cells, no_item, a_crlf, some_columns, a_closing, a_group, a_member, no_member}
+use Rattle.ops_grammar.specs.Grammar.{Use, InPattern, InPut, InFixed, Wanted, Forms, Form, ClassDeclared, Attributes, VectorName, VectorNames, RuleName, FirstPattern, Patterns, Pattern, Braced, ElementName, ClosesBrace, ClassName, Terms, Attribute, Several, Place, Tests, Tested, Choice, Atom, ValueFor, Function, ExpressionUnit, ExpressionRest, Bracketed, SourceCell, SourceAttribute, SourceEnd, Actions, ActionWord, Modified, BoundName, BoundValue, CellName, Cell, Cells, Items, ItemWord, Columns, Count, StrategyName, TagOrAll, Tags, Shown, NamedRule, NamedRules, Level, Undone, Closes, is_name, is_one_of, behind_attribute, GroupBrace, Members}
+use Rattle.ops_grammar.specs.Derivation.{with_name, Derives, nothing, no_form, a_class, no_attribute, a_vector, no_more_vectors, a_rule, a_first, a_whole_pattern, a_name_before, an_element_name, a_closed_brace, an_arrow, a_run, no_count, no_strategy_name, all_tags, no_more_tags, all_shown, a_named_rule, no_more_rules, no_level, one_undone, a_class_name, no_term, a_scalar_attribute, a_vector_attribute, no_more_of_several, a_value, a_unit, a_bracketed_expression, no_operation, a_substr, a_source, a_source_attribute, the_same_again, an_atom, no_more_tests, an_operand, a_tested_operand, no_more_choices, no_action, to_halt, a_modified, a_bound_name, no_bound_value, a_cell_name, a_cell, no_more_cells, no_item, a_crlf, some_columns, a_closing, a_group, a_member, no_member}
 
 abbrev closing : Word
 closing = record { kind = kind.Right; keyword = keyword.Other; name = record { 0 = 0 }; first = 0; past = 0 }
@@ -110,6 +110,7 @@ complete vs Shown ws c = (closing ∷ (c vs).0, all_shown refl (c vs).1)
 complete vs NamedRule ws c = (named keyword.Other ∷ (c vs).0, a_named_rule refl (c vs).1)
 complete vs (NamedRules u) ws c = (closing ∷ (c vs).0, no_more_rules refl (c vs).1)
 complete vs Level ws c = (closing ∷ (c vs).0, no_level refl (c vs).1)
+complete vs Undone ws c = (closing ∷ (c vs).0, one_undone refl (c vs).1)
 complete vs (Closes e) ws c = (closing ∷ (c vs).0, a_closing refl (c vs).1)
 
 -- everything that is wanted can be completed, whatever the names of vector attributes are

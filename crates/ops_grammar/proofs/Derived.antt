@@ -17,8 +17,8 @@ use Rattle.ops_tokens.specs.declared.token.TokenKind.TheVariants as kind
 use Rattle.ops_grammar.specs.declared.words.Word.{Word}
 use Rattle.ops_grammar.specs.declared.words.Keyword.{Keyword}
 use Rattle.ops_grammar.specs.declared.words.Keyword.TheVariants as keyword
-use Rattle.ops_grammar.specs.Grammar.{Use, InPattern, InPut, InFixed, Target, ToTest, ToPut, ToFixed, ToTerms, ToConstants, ToItem, ToBind, Ends, EndsHalt, EndsCrlf, EndsCs, EndsExit, EndsWhole, TagUse, ToRemove, NameUse, Column, Wanted, Forms, Form, ClassDeclared, Attributes, VectorName, VectorNames, RuleName, FirstPattern, Patterns, Pattern, Braced, ElementName, ClosesBrace, ClassName, Terms, Attribute, Several, Place, Tests, Tested, Choice, Atom, ValueFor, Function, Waiting, ExpressionUnit, ExpressionRest, Bracketed, SourceCell, SourceAttribute, SourceEnd, Actions, ActionWord, Modified, BoundName, BoundValue, CellName, Cell, Cells, Items, ItemWord, Columns, Count, StrategyName, TagOrAll, Tags, Shown, NamedRule, NamedRules, Level, Closes, State, Step, Next, Refuses, is_left, is_right, is_left_brace, is_right_brace, is_caret, is_name, is_variable, is_arrow, is_literal, is_inf, is_minus, opens_choice, closes_choice, pred_of, constant_of, value_of, atom_of, small_of, is_one_of, number_of, may_declare, is_class, is_rule, form, class_declared, is_second, attributes, makes_second, vector_declared, vector_name, vector_names, class_at, class_name, attributes_of, behind_attribute, field_at, attribute, with_bind, with_constant, variable_tested, constant_tested, tested, predicated, test, place, tests, chosen, choice, atom_at, term_at, bound_at, constant_at, is_of_action, value_for, most_brackets, no_formula, with_formula, unit_bound, unit_at, expression_unit, bracketed, is_compute, operation_of, operation_at, expression_ended, expression_rest, function, source_named, source_cell, source_class, source_at, source_attribute, takes_several, ends_at_inf, source_end, with_element, terms, within, one_of_several, with_several, several, rule_name, first_pattern, one_more, patterns, pattern, element_at, element_name, braced, closes_brace, actions, action_word, cell_of, with_designated, cell, with_modified, modified, bound_name, bound_value, cell_bound, cell_name, cells, items, item_word, columns_at, counted, count_of, count, strategy_set, strategy_of, strategy_name, tag_at, is_all, tag_or_all, tags, shown, named_rule, named_rules, level_of, level_set, level, ended, closes, forms, step, begins_group, GroupBrace, Members, members, group, has_room}
-use Rattle.ops_grammar.specs.Derivation.{is_whole, is_designator, is_operand, is_value, is_choice, with_name, Derives, a_form, a_literalize, a_class, an_attribute, no_attribute, a_vector_declaration, a_vector, one_more_vector, no_more_vectors, a_production, a_rule, a_first, a_braced_first, a_negated_first, a_pattern, a_braced_pattern, a_negated_pattern, a_whole_pattern, a_name_before, a_name_behind, an_element_name, a_closed_brace, an_arrow, a_make, a_run, a_count, no_count, a_strategy, a_strategy_name, no_strategy_name, a_remove_command, all_tags, a_first_tag, a_wm, one_more_tag, no_more_tags, a_ppwm, a_shown_class, all_shown, a_cs, an_exit, a_pm, a_pbreak, a_named_rule, one_more_rule, no_more_rules, a_watch, a_level, no_level, a_class_name, a_term, no_term, a_scalar_attribute, a_vector_attribute, one_more_place, one_more_term, one_more_constant, no_more_of_several, a_value, a_literal_value, a_function, a_compute, a_genatom, an_accept, a_unit, a_bracketed_unit, a_bracketed_compute, a_bracketed_expression, an_operation, no_operation, a_substr, a_source, a_source_attribute, the_same_again, up_to_inf, an_atom, a_conjunction, no_more_tests, an_operand, a_literal, a_predicate, a_disjunction, one_more_operand, one_more_literal, one_more_predicate, one_more_disjunction, a_tested_operand, a_tested_literal, one_more_choice, no_more_choices, an_action, no_action, to_make, to_modify, to_bind, to_cbind, to_remove, to_write, to_halt, a_modified, a_bound_name, a_bound_value, no_bound_value, a_cell_name, a_cell, one_more_cell, no_more_cells, an_item, a_literal_item, an_item_form, no_item, a_crlf, a_tab, a_right, a_function_item, some_columns, a_closing, is_no_form, a_group, a_member, no_member, a_group_first, a_group_pattern, an_excise, a_matches}
+use Rattle.ops_grammar.specs.Grammar.{Use, InPattern, InPut, InFixed, Target, ToTest, ToPut, ToFixed, ToTerms, ToConstants, ToItem, ToBind, Ends, EndsHalt, EndsCrlf, EndsCs, EndsExit, EndsWhole, TagUse, ToRemove, NameUse, Column, Wanted, Forms, Form, ClassDeclared, Attributes, VectorName, VectorNames, RuleName, FirstPattern, Patterns, Pattern, Braced, ElementName, ClosesBrace, ClassName, Terms, Attribute, Several, Place, Tests, Tested, Choice, Atom, ValueFor, Function, Waiting, ExpressionUnit, ExpressionRest, Bracketed, SourceCell, SourceAttribute, SourceEnd, Actions, ActionWord, Modified, BoundName, BoundValue, CellName, Cell, Cells, Items, ItemWord, Columns, Count, StrategyName, TagOrAll, Tags, Shown, NamedRule, NamedRules, Level, Undone, Closes, State, Step, Next, Refuses, is_left, is_right, is_left_brace, is_right_brace, is_caret, is_name, is_variable, is_arrow, is_literal, is_inf, is_minus, opens_choice, closes_choice, pred_of, constant_of, value_of, atom_of, small_of, is_one_of, number_of, may_declare, is_class, is_rule, form, class_declared, is_second, attributes, makes_second, vector_declared, vector_name, vector_names, class_at, class_name, attributes_of, behind_attribute, field_at, attribute, with_bind, with_constant, variable_tested, constant_tested, tested, predicated, test, place, tests, chosen, choice, atom_at, term_at, bound_at, constant_at, is_of_action, value_for, most_brackets, no_formula, with_formula, unit_bound, unit_at, expression_unit, bracketed, is_compute, operation_of, operation_at, expression_ended, expression_rest, function, source_named, source_cell, source_class, source_at, source_attribute, takes_several, ends_at_inf, source_end, with_element, terms, within, one_of_several, with_several, several, rule_name, first_pattern, one_more, patterns, pattern, element_at, element_name, braced, closes_brace, actions, action_word, cell_of, with_designated, cell, with_modified, modified, bound_name, bound_value, cell_bound, cell_name, cells, items, item_word, columns_at, counted, count_of, count, strategy_set, strategy_of, strategy_name, tag_at, is_all, tag_or_all, tags, shown, named_rule, named_rules, level_of, undone_of, level_set, undone_set, level, undone, ended, closes, forms, step, begins_group, GroupBrace, Members, members, group, has_room}
+use Rattle.ops_grammar.specs.Derivation.{is_whole, is_designator, is_operand, is_value, is_choice, with_name, Derives, a_form, a_literalize, a_class, an_attribute, no_attribute, a_vector_declaration, a_vector, one_more_vector, no_more_vectors, a_production, a_rule, a_first, a_braced_first, a_negated_first, a_pattern, a_braced_pattern, a_negated_pattern, a_whole_pattern, a_name_before, a_name_behind, an_element_name, a_closed_brace, an_arrow, a_make, a_run, a_count, no_count, a_strategy, a_strategy_name, no_strategy_name, a_remove_command, all_tags, a_first_tag, a_wm, one_more_tag, no_more_tags, a_ppwm, a_shown_class, all_shown, a_cs, an_exit, a_pm, a_pbreak, a_named_rule, one_more_rule, no_more_rules, a_watch, a_back, a_level, some_undone, no_level, one_undone, a_class_name, a_term, no_term, a_scalar_attribute, a_vector_attribute, one_more_place, one_more_term, one_more_constant, no_more_of_several, a_value, a_literal_value, a_function, a_compute, a_genatom, an_accept, a_unit, a_bracketed_unit, a_bracketed_compute, a_bracketed_expression, an_operation, no_operation, a_substr, a_source, a_source_attribute, the_same_again, up_to_inf, an_atom, a_conjunction, no_more_tests, an_operand, a_literal, a_predicate, a_disjunction, one_more_operand, one_more_literal, one_more_predicate, one_more_disjunction, a_tested_operand, a_tested_literal, one_more_choice, no_more_choices, an_action, no_action, to_make, to_modify, to_bind, to_cbind, to_remove, to_write, to_halt, a_modified, a_bound_name, a_bound_value, no_bound_value, a_cell_name, a_cell, one_more_cell, no_more_cells, an_item, a_literal_item, an_item_form, no_item, a_crlf, a_tab, a_right, a_function_item, some_columns, a_closing, is_no_form, a_group, a_member, no_member, a_group_first, a_group_pattern, an_excise, a_matches}
 use Rattle.ops_grammar.proofs.Completed.{completed, attribute_completed}
 use Rattle.ops_grammar.proofs.Arranged.{AreArranged, StayArranged, stays_arranged, kind_agrees}
 
@@ -130,6 +130,7 @@ module _ (w : Word) (ws : List Wanted) (s : State) where
   form_continues keyword.Pm e = (λ h. h, λ ts d. a_pm e d)
   form_continues keyword.Strategy e = (λ h. h, λ ts d. a_strategy e d)
   form_continues keyword.Watch e = (λ h. h, λ ts d. a_watch e d)
+  form_continues keyword.Back e = (λ h. h, λ ts d. a_back e d)
   form_continues keyword.Pbreak e = (λ h. h, λ ts d. a_pbreak e d)
   form_continues keyword.Excise e = (λ h. h, λ ts d. an_excise e d)
   form_continues keyword.Matches e = (λ h. h, λ ts d. a_matches e d)
@@ -573,10 +574,20 @@ module _ (w : Word) (ws : List Wanted) (s : State) where
   level_set_continues (Some n) e = (λ h. h, λ ts d. a_level (ap (λ (o : Option ℕ). is_some o) e) d)
   level_set_continues None e = λ f. no_fault f
 
+  -- the number of firings that are undone
+  undone_set_continues : (o : Option ℕ) → undone_of w.kind ≡ o → Continues s.vectors (Undone ∷ ws) w (undone_set o ws s)
+  undone_set_continues (Some n) e = (λ h. h, λ ts d. some_undone (ap (λ (o : Option ℕ). is_some o) e) d)
+  undone_set_continues None e = λ f. no_fault f
+
   level_continues : Continues s.vectors (Level ∷ ws) w (level w ws s)
   level_continues =
       cond_both (is_right w.kind) _ _ (Continues s.vectors (Level ∷ ws) w) (λ e. (λ h. h, λ ts d. no_level e d))
       (λ _. level_set_continues (level_of w.kind) refl)
+
+  undone_continues : Continues s.vectors (Undone ∷ ws) w (undone w ws s)
+  undone_continues =
+      cond_both (is_right w.kind) _ _ (Continues s.vectors (Undone ∷ ws) w) (λ e. (λ h. h, λ ts d. one_undone e d))
+      (λ _. undone_set_continues (undone_of w.kind) refl)
 
   closes_continues : (e : Ends) → Continues s.vectors (Closes e ∷ ws) w (closes e w ws s)
   closes_continues e = cond_both (is_right w.kind) _ _ (Continues s.vectors (Closes e ∷ ws) w) (λ is. (λ h. h, kept (ended e s) (ended_vectors e s) (Closes e ∷ ws) ws (λ ts d. a_closing is d))) (λ _ f. no_fault f)
@@ -687,6 +698,7 @@ step_continues w (Shown ∷ ws) s a = shown_continues w ws s
 step_continues w (NamedRule ∷ ws) s a = named_rule_continues w ws s (NamedRule ∷ ws) ws (λ h. h) (λ e ts d. a_named_rule e d)
 step_continues w (NamedRules u ∷ ws) s a = named_rules_continue w ws s u
 step_continues w (Level ∷ ws) s a = level_continues w ws s
+step_continues w (Undone ∷ ws) s a = undone_continues w ws s
 step_continues w (Closes e ∷ ws) s a = closes_continues w ws s e
 
 module _ (w : Word) (ws : List Wanted) (s : State) (arranged : AreArranged ws s) where

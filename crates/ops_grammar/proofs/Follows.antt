@@ -19,8 +19,8 @@ use Rattle.ops_tokens.specs.declared.token.TokenKind.TheVariants as kind
 use Rattle.ops_grammar.specs.declared.words.Word.{Word}
 use Rattle.ops_grammar.specs.declared.words.Keyword.{Keyword}
 use Rattle.ops_grammar.specs.declared.words.Keyword.TheVariants as keyword
-use Rattle.ops_grammar.specs.Grammar.{Use, InPattern, InPut, InFixed, Target, ToTest, ToPut, ToTerms, ToConstants, ToItem, ToBind, EndsWhole, ToRemove, Column, Wanted, Forms, Attribute, VectorNames, Patterns, Pattern, Braced, ClosesBrace, ClassName, Terms, Several, Place, Tests, Choice, ValueFor, Function, Waiting, ExpressionUnit, ExpressionRest, Bracketed, SourceEnd, Atom, Tested, BoundValue, Cells, Items, ItemWord, Tags, Closes, State, Step, Next, Refuses, is_left, is_right, is_left_brace, is_right_brace, is_caret, is_name, is_variable, is_arrow, is_literal, is_inf, is_minus, opens_choice, closes_choice, pred_of, constant_of, value_of, atom_of, natural_of, small_of, is_one_of, number_of, may_declare, is_class, is_rule, is_second, makes_second, vector_declared, form, class_at, attributes_of, behind_attribute, field_at, with_bind, with_constant, variable_tested, constant_tested, tested, predicated, test, place, tests, chosen, atom_at, term_at, bound_at, constant_at, is_of_action, value_for, most_brackets, no_formula, with_formula, unit_bound, unit_at, expression_unit, is_compute, operation_of, operation_at, expression_ended, function, source_named, source_class, source_at, takes_several, ends_at_inf, source_end, with_element, terms, within, one_of_several, with_several, several, one_more, element_at, action_word, designated, numbered_cell, named_cell, cell_of, with_designated, with_modified, cell_bound, item_word, columns_at, counted, count_of, strategy_set, strategy_of, tag_at, is_all, level_of, level_set, ended, step, is_absent, begins_group, has_room}
-use Rattle.ops_grammar.specs.Derivation.{is_designator, is_operand, is_value, with_name, Derives, nothing, no_form, a_form, a_literalize, a_class, an_attribute, no_attribute, a_vector_declaration, a_vector, one_more_vector, no_more_vectors, a_production, a_rule, a_first, a_braced_first, a_negated_first, a_pattern, a_braced_pattern, a_negated_pattern, a_whole_pattern, a_name_before, a_name_behind, an_element_name, a_closed_brace, an_arrow, a_make, a_run, a_count, no_count, a_strategy, a_strategy_name, no_strategy_name, a_remove_command, all_tags, a_first_tag, a_wm, one_more_tag, no_more_tags, a_ppwm, a_shown_class, all_shown, a_cs, an_exit, a_pm, a_pbreak, a_named_rule, one_more_rule, no_more_rules, a_watch, a_level, no_level, a_class_name, a_term, no_term, a_scalar_attribute, a_vector_attribute, one_more_place, one_more_term, one_more_constant, no_more_of_several, a_value, a_literal_value, a_function, a_compute, a_genatom, an_accept, a_unit, a_bracketed_unit, a_bracketed_compute, a_bracketed_expression, an_operation, no_operation, a_substr, a_source, a_source_attribute, the_same_again, up_to_inf, an_atom, a_conjunction, no_more_tests, an_operand, a_literal, a_predicate, a_disjunction, one_more_operand, one_more_literal, one_more_predicate, one_more_disjunction, a_tested_operand, a_tested_literal, one_more_choice, no_more_choices, an_action, no_action, to_make, to_modify, to_bind, to_cbind, to_remove, to_write, to_halt, a_modified, a_bound_name, a_bound_value, no_bound_value, a_cell_name, a_cell, one_more_cell, no_more_cells, an_item, a_literal_item, an_item_form, no_item, a_crlf, a_tab, a_right, a_function_item, some_columns, a_closing, is_no_form, a_group, a_member, no_member, a_group_first, a_group_pattern, an_excise, a_matches}
+use Rattle.ops_grammar.specs.Grammar.{Use, InPattern, InPut, InFixed, Target, ToTest, ToPut, ToTerms, ToConstants, ToItem, ToBind, EndsWhole, ToRemove, Column, Wanted, Forms, Attribute, VectorNames, Patterns, Pattern, Braced, ClosesBrace, ClassName, Terms, Several, Place, Tests, Choice, ValueFor, Function, Waiting, ExpressionUnit, ExpressionRest, Bracketed, SourceEnd, Atom, Tested, BoundValue, Cells, Items, ItemWord, Tags, Closes, State, Step, Next, Refuses, is_left, is_right, is_left_brace, is_right_brace, is_caret, is_name, is_variable, is_arrow, is_literal, is_inf, is_minus, opens_choice, closes_choice, pred_of, constant_of, value_of, atom_of, natural_of, small_of, is_one_of, number_of, may_declare, is_class, is_rule, is_second, makes_second, vector_declared, form, class_at, attributes_of, behind_attribute, field_at, with_bind, with_constant, variable_tested, constant_tested, tested, predicated, test, place, tests, chosen, atom_at, term_at, bound_at, constant_at, is_of_action, value_for, most_brackets, no_formula, with_formula, unit_bound, unit_at, expression_unit, is_compute, operation_of, operation_at, expression_ended, function, source_named, source_class, source_at, takes_several, ends_at_inf, source_end, with_element, terms, within, one_of_several, with_several, several, one_more, element_at, action_word, designated, numbered_cell, named_cell, cell_of, with_designated, with_modified, cell_bound, item_word, columns_at, counted, count_of, strategy_set, strategy_of, tag_at, is_all, level_of, undone_of, level_set, undone_set, ended, step, is_absent, begins_group, has_room}
+use Rattle.ops_grammar.specs.Derivation.{is_designator, is_operand, is_value, with_name, Derives, nothing, no_form, a_form, a_literalize, a_class, an_attribute, no_attribute, a_vector_declaration, a_vector, one_more_vector, no_more_vectors, a_production, a_rule, a_first, a_braced_first, a_negated_first, a_pattern, a_braced_pattern, a_negated_pattern, a_whole_pattern, a_name_before, a_name_behind, an_element_name, a_closed_brace, an_arrow, a_make, a_run, a_count, no_count, a_strategy, a_strategy_name, no_strategy_name, a_remove_command, all_tags, a_first_tag, a_wm, one_more_tag, no_more_tags, a_ppwm, a_shown_class, all_shown, a_cs, an_exit, a_pm, a_pbreak, a_named_rule, one_more_rule, no_more_rules, a_watch, a_back, a_level, some_undone, no_level, one_undone, a_class_name, a_term, no_term, a_scalar_attribute, a_vector_attribute, one_more_place, one_more_term, one_more_constant, no_more_of_several, a_value, a_literal_value, a_function, a_compute, a_genatom, an_accept, a_unit, a_bracketed_unit, a_bracketed_compute, a_bracketed_expression, an_operation, no_operation, a_substr, a_source, a_source_attribute, the_same_again, up_to_inf, an_atom, a_conjunction, no_more_tests, an_operand, a_literal, a_predicate, a_disjunction, one_more_operand, one_more_literal, one_more_predicate, one_more_disjunction, a_tested_operand, a_tested_literal, one_more_choice, no_more_choices, an_action, no_action, to_make, to_modify, to_bind, to_cbind, to_remove, to_write, to_halt, a_modified, a_bound_name, a_bound_value, no_bound_value, a_cell_name, a_cell, one_more_cell, no_more_cells, an_item, a_literal_item, an_item_form, no_item, a_crlf, a_tab, a_right, a_function_item, some_columns, a_closing, is_no_form, a_group, a_member, no_member, a_group_first, a_group_pattern, an_excise, a_matches}
 use Rattle.ops_grammar.proofs.Arranged.{AreArranged, kind_agrees}
 use Rattle.ops_grammar.proofs.Derived.{forms_last, bind_vectors, constant_vectors, element_vectors, ended_vectors}
 use Rattle.ops_grammar.proofs.Moved.{at_any_place, several_at_any_place, whatever_waits}
@@ -73,6 +73,10 @@ count_not_right _ e = refl
 level_not_right : (k : TokenKind) → is_some (level_of k) ≡ true → is_right k ≡ false
 level_not_right kind.Right e = absurd (true≢false (sym e))
 level_not_right _ e = refl
+
+undone_not_right : (k : TokenKind) → is_some (undone_of k) ≡ true → is_right k ≡ false
+undone_not_right kind.Right e = absurd (true≢false (sym e))
+undone_not_right _ e = refl
 
 pub variable_not_left : (k : TokenKind) → is_variable k ≡ true → is_left k ≡ false
 variable_not_left kind.Left e = absurd (true≢false (sym e))
@@ -443,6 +447,10 @@ module _ (w : Word) (ts : List Word) where
     level_goes (Some n) e d = λ _. d
     level_goes None e d = absurd (true≢false (sym e))
 
+    undone_goes : (o : Option ℕ) → is_some o ≡ true → Derives s.vectors (Closes EndsWhole ∷ ws) ts → Went w ts (undone_set o ws s)
+    undone_goes (Some n) e d = λ _. d
+    undone_goes None e d = absurd (true≢false (sym e))
+
 -- the end of an expression
 ended_goes_on : (w : Word) (ts : List Word) (ws : List Wanted) (s : State) (into : Option Target) (f : Formula) → Derives s.vectors ws ts → Went w ts (expression_ended into f ws s)
 ended_goes_on w ts ws s (Some t) f d = term_goes w ts ws (with_formula s no_formula) t (term.Compute f) d
@@ -641,9 +649,13 @@ derived_goes ws words s a (one_more_rule {w = w} {ts = ts} e d) last =
     unmet w ts (is_right w.kind) _ _ (name_not_right w.kind e) (met w ts (is_name w.kind) _ _ e (λ _. d))
 derived_goes ws words s a (no_more_rules {w = w} {ts = ts} e d) last = met w ts (is_right w.kind) _ _ e (λ _. d)
 derived_goes ws words s a (a_watch {ws = rest} {w = w} {ts = ts} e d) last = form_goes w ts rest s keyword.Watch e (λ _. d)
+derived_goes ws words s a (a_back {ws = rest} {w = w} {ts = ts} e d) last = form_goes w ts rest s keyword.Back e (λ _. d)
 derived_goes ws words s a (a_level {ws = rest} {w = w} {ts = ts} e d) last =
     unmet w ts (is_right w.kind) _ _ (level_not_right w.kind e) (level_goes w ts rest s (level_of w.kind) e d)
+derived_goes ws words s a (some_undone {ws = rest} {w = w} {ts = ts} e d) last =
+    unmet w ts (is_right w.kind) _ _ (undone_not_right w.kind e) (undone_goes w ts rest s (undone_of w.kind) e d)
 derived_goes ws words s a (no_level {w = w} {ts = ts} e d) last = met w ts (is_right w.kind) _ _ e (λ _. d)
+derived_goes ws words s a (one_undone {w = w} {ts = ts} e d) last = met w ts (is_right w.kind) _ _ e (λ _. d)
 derived_goes ws words s a (a_class_name {ws = rest} {w = w} {ts = ts} e d) last =
     met w ts (is_name w.kind) _ _ e (class_goes w ts rest s (position (λ c. c.name.0 == w.name.0) s.classes) d)
 derived_goes ws words s a (a_term {w = w} {ts = ts} e d) last =

@@ -37,14 +37,14 @@ use Rattle.ops_tokens.specs.declared.token.TokenKind.TheVariants as kind
 use Rattle.ops_grammar.specs.declared.words.Word.{Word}
 use Rattle.ops_grammar.specs.declared.words.Keyword.{Keyword}
 use Rattle.ops_grammar.specs.declared.words.Keyword.TheVariants as keyword
-use Rattle.ops_grammar.specs.Grammar.{Use, InPattern, InPut, InFixed, Target, ToTest, ToPut, ToFixed, ToTerms, ToConstants, ToItem, ToBind, EndsWhole, Column, ToTab, ToRight, TagUse, ToRemove, ToShow, NameUse, ToPrint, ToBreak, Wanted, Forms, Attributes, VectorNames, Patterns, Pattern, ClosesBrace, Terms, Several, Choice, ExpressionRest, SourceAttribute, Actions, Cells, Items, Tags, NamedRules, Closes, is_left, is_right, is_left_brace, is_right_brace, is_caret, is_name, is_variable, is_arrow, is_literal, is_minus, opens_choice, closes_choice, pred_of, constant_of, atom_of, value_of, natural_of, small_of, is_one_of, number_of, precedes_classes, may_declare, is_class, is_rule, form, class_declared, is_second, attribute_declared, attributes, arranged, has_vector, makes_second, vector_declared, vector_name, class_at, class_name, attributes_of, behind_attribute, field_at, with_test, with_item, with_constant, with_bound, variable_tested, constant_tested, tested, predicated, test, with_choice, chosen, choice, atom_at, term_at, bound_at, constant_at, is_of_action, value_for, function, function_depth, most_brackets, no_formula, with_formula, Waiting, completed, is_compute, operation_of, unit_bound, unit_at, expression_unit, bracketed, operation_at, expression_rest, source_named, source_class, source_at, takes_several, is_inf, ends_at_inf, source_end, with_command, fixed_command, with_element, with_several, terms, within, one_of_several, several, place, one_more, patterns, element_at, element_name, action_word, classes_of_cells, designated, numbered_cell, named_cell, cell_of, with_designated, with_modified, bound_value, cell_bound, item_word, column_item, columns_at, count_of, counted, count, strategy_of, strategy_set, strategy_name, tag_at, is_all, tag_or_all, tag_command, tags, shown, named_rule, name_command, named_rules, level_of, level_set, level, State, Step, Next, Refuses, step, is_absent, begins_group, members, group, with_member, with_one, has_room, ClassName, ToExcise, ToMatch}
+use Rattle.ops_grammar.specs.Grammar.{Use, InPattern, InPut, InFixed, Target, ToTest, ToPut, ToFixed, ToTerms, ToConstants, ToItem, ToBind, EndsWhole, Column, ToTab, ToRight, TagUse, ToRemove, ToShow, NameUse, ToPrint, ToBreak, Wanted, Forms, Attributes, VectorNames, Patterns, Pattern, ClosesBrace, Terms, Several, Choice, ExpressionRest, SourceAttribute, Actions, Cells, Items, Tags, NamedRules, Closes, is_left, is_right, is_left_brace, is_right_brace, is_caret, is_name, is_variable, is_arrow, is_literal, is_minus, opens_choice, closes_choice, pred_of, constant_of, atom_of, value_of, natural_of, small_of, is_one_of, number_of, precedes_classes, may_declare, is_class, is_rule, form, class_declared, is_second, attribute_declared, attributes, arranged, has_vector, makes_second, vector_declared, vector_name, class_at, class_name, attributes_of, behind_attribute, field_at, with_test, with_item, with_constant, with_bound, variable_tested, constant_tested, tested, predicated, test, with_choice, chosen, choice, atom_at, term_at, bound_at, constant_at, is_of_action, value_for, function, function_depth, most_brackets, no_formula, with_formula, Waiting, completed, is_compute, operation_of, unit_bound, unit_at, expression_unit, bracketed, operation_at, expression_rest, source_named, source_class, source_at, takes_several, is_inf, ends_at_inf, source_end, with_command, fixed_command, with_element, with_several, terms, within, one_of_several, several, place, one_more, patterns, element_at, element_name, action_word, classes_of_cells, designated, numbered_cell, named_cell, cell_of, with_designated, with_modified, bound_value, cell_bound, item_word, column_item, columns_at, count_of, counted, count, strategy_of, strategy_set, strategy_name, tag_at, is_all, tag_or_all, tag_command, tags, shown, named_rule, name_command, named_rules, level_of, undone_of, level_set, undone_set, level, undone, State, Step, Next, Refuses, step, is_absent, begins_group, members, group, with_member, with_one, has_room, ClassName, ToExcise, ToMatch}
 use Rattle.ops_grammar.specs.Spelling.{nothing_numbered, tests_are_plain, after_tests, after_conditions, InSight, cell_is_plain, term_is_plain, put_is_plain, item_is_plain, command_is_plain, after_members, members_are_plain, Numbered}
 use Rattle.ops_grammar.proofs.Lists.{all_push, all_none, all_at}
 use Rattle.ops_grammar.proofs.Parts.{has_cell, elements_push, no_elements, elements_push_group}
 use Rattle.ops_grammar.proofs.Sound.{Braces, Bare, NamedBefore, NamedBehind, behind, HasTags, HasNames, at, outer, AsMember, several_at}
 use Rattle.ops_grammar.proofs.PlainClasses.{IsArranged, IsAttributes, class_arranged, classes_arranged, attributes_begun, attribute_pushed}
 use Rattle.ops_grammar.proofs.PlainFormulas.{IsOperand, AreOperands, AreOpen, outermost, bracket, operand_completed, operand_bracketed}
-use Rattle.ops_grammar.proofs.Plain.{numbers_in, in_sight, Base, Right, Declaring, Around, IsBegun, IsOfCell, IsElement, Conditions, HasCells, HasItems, AtTags, AtNames, HasAttribute, IsVector, HasMore, HasSeveral, IsSource, Spot, HasPlace, HasTarget, behind_place, behind_test, behind_target, IsPlainly, at_forms, at_form, at_class_declared, at_attributes, at_vector_name, at_vector_names, at_rule_name, at_first_pattern, at_patterns, at_pattern, at_braced, at_element_name, at_closes_brace, at_class_name, at_terms, at_attribute, at_several, at_place, at_tests, at_tested, at_choice, at_atom, at_value, at_function, at_expression_unit, at_last_rest, at_bracketed_rest, at_bracketed, at_source_cell, at_source_attribute, at_source_end, at_actions, at_action_word, at_modified, at_bound_name, at_bound_value, at_cell_name, at_cell, at_cells, at_items, at_item_word, at_columns, at_whole, at_crlf, at_halt, at_count, at_strategy_name, at_tag_or_all, at_tags, at_shown, at_named_rule, at_named_rules, at_level, at_cs, at_exit, Keeps, after_conditions-push, conditions_push, condition_counted, begun_positive, begins_first, begins_behind, number_sighted, cells_more, number_below, below_more, placed, numbered_inside, AmongMembers, at_group, at_members, members_push, after_members-push, positive_push, numbered_in, Left}
+use Rattle.ops_grammar.proofs.Plain.{numbers_in, in_sight, Base, Right, Declaring, Around, IsBegun, IsOfCell, IsElement, Conditions, HasCells, HasItems, AtTags, AtNames, HasAttribute, IsVector, HasMore, HasSeveral, IsSource, Spot, HasPlace, HasTarget, behind_place, behind_test, behind_target, IsPlainly, at_forms, at_form, at_class_declared, at_attributes, at_vector_name, at_vector_names, at_rule_name, at_first_pattern, at_patterns, at_pattern, at_braced, at_element_name, at_closes_brace, at_class_name, at_terms, at_attribute, at_several, at_place, at_tests, at_tested, at_choice, at_atom, at_value, at_function, at_expression_unit, at_last_rest, at_bracketed_rest, at_bracketed, at_source_cell, at_source_attribute, at_source_end, at_actions, at_action_word, at_modified, at_bound_name, at_bound_value, at_cell_name, at_cell, at_cells, at_items, at_item_word, at_columns, at_whole, at_crlf, at_halt, at_count, at_strategy_name, at_tag_or_all, at_tags, at_shown, at_named_rule, at_named_rules, at_level, at_undone, at_cs, at_exit, Keeps, after_conditions-push, conditions_push, condition_counted, begun_positive, begins_first, begins_behind, number_sighted, cells_more, number_below, below_more, placed, numbered_inside, AmongMembers, at_group, at_members, members_push, after_members-push, positive_push, numbered_in, Left}
 use Rattle.ops_grammar.proofs.PlainKept.{command_kept, commands_still, action_kept, element_kept, bind_kept, cell_kept, test_kept, test_bound, choosing, put_kept, fixed_kept, several_begun, several_kept, term_pushed, constant_pushed, right_kept, negated_begun, rule_kept, element_bound, counted_before}
 
 -- ---- designators
@@ -96,6 +96,10 @@ count_there _ n e = absurd (cc)
 level_there : (k : TokenKind) (n : ℕ) → level_of k ≡ Some n → nat_le n 2 ≡ true
 level_there (kind.Whole (pos m)) n e = passed_by (λ i. nat_le i 2) (nat_le m 2) m n refl e
 level_there _ n e = absurd (cc)
+
+undone_there : (k : TokenKind) (n : ℕ) → undone_of k ≡ Some n → (nat_le 1 n && nat_le n 32) ≡ true
+undone_there (kind.Whole (pos m)) n e = passed_by (λ i. nat_le 1 i && nat_le i 32) (nat_le 1 m && nat_le m 32) m n refl e
+undone_there _ n e = absurd (cc)
 
 column_plain : (classes : List Class) (k : InSight) (c : Column) (n : ℕ) → is_column n ≡ true → item_is_plain classes k (column_item c n) ≡ true
 column_plain classes k ToTab n is = is
@@ -197,6 +201,7 @@ module _ (w : Word) where
   form_keeps s g keyword.Pm = at_named_rule ToPrint g
   form_keeps s g keyword.Strategy = at_strategy_name g
   form_keeps s g keyword.Watch = at_level g
+  form_keeps s g keyword.Back = at_undone g
   form_keeps s g keyword.Pbreak = at_named_rules ToBreak (g, tt)
   form_keeps s g keyword.Excise = at_named_rule ToExcise g
   form_keeps s g keyword.Matches = at_named_rule ToMatch g
@@ -727,8 +732,15 @@ module _ (w : Word) where
   level_set_keeps s g (Some n) e = whole_command_keeps (command.Watch (Some n)) s g (level_there w.kind n e)
   level_set_keeps s g None e = tt
 
+  undone_set_keeps : (s : State) → Base s → (o : Option ℕ) → undone_of w.kind ≡ o → Keeps (undone_set o (Forms ∷ []) s)
+  undone_set_keeps s g (Some n) e = whole_command_keeps (command.Back n) s g (undone_there w.kind n e)
+  undone_set_keeps s g None e = tt
+
   level_keeps : (s : State) → Base s → Keeps (level w (Forms ∷ []) s)
   level_keeps s g = cond_both (is_right w.kind) _ _ Keeps (λ _. command_keeps (command.Watch None) s g refl) (λ _. level_set_keeps s g (level_of w.kind) refl)
+
+  undone_keeps : (s : State) → Base s → Keeps (undone w (Forms ∷ []) s)
+  undone_keeps s g = cond_both (is_right w.kind) _ _ Keeps (λ _. command_keeps (command.Back 1) s g refl) (λ _. undone_set_keeps s g (undone_of w.kind) refl)
 
   tag_keeps : (u : TagUse) (s : State) → Base s → list_all is_natural s.tags ≡ true → (o : Option ℕ) → count_of w.kind ≡ o → Keeps (tag_at o (Tags u ∷ Forms ∷ []) s)
   tag_keeps u s g natural (Some n) e = at_tags u (g, all_push is_natural s.tags n natural (count_there w.kind n e), tag_enough u s.tags n)
@@ -831,5 +843,6 @@ module _ (w : Word) where
   step_keeps s ws (at_named_rule u g) = named_rule_keeps u s g
   step_keeps s ws (at_named_rules u g) = named_rules_keep u s g
   step_keeps s ws (at_level g) = level_keeps s g
+  step_keeps s ws (at_undone g) = undone_keeps s g
   step_keeps s ws (at_cs g) = cond_both (is_right w.kind) _ _ Keeps (λ _. command_keeps command.Cs s g refl) (λ _. tt)
   step_keeps s ws (at_exit g) = cond_both (is_right w.kind) _ _ Keeps (λ _. command_keeps command.Exit s g refl) (λ _. tt)

@@ -94,7 +94,8 @@ symbol_proper s =
     (either kind.Symbol (bytes_eq s (codes "pbreak")) _ _ refl
     (either kind.Symbol (bytes_eq s (codes "excise")) _ _ refl
     (either kind.Symbol (bytes_eq s (codes "matches")) _ _ refl
-    (either kind.Symbol (bytes_eq s (codes "exit")) _ _ refl refl))))))))))))))))))))))))))))))))))
+    (either kind.Symbol (bytes_eq s (codes "back")) _ _ refl
+    (either kind.Symbol (bytes_eq s (codes "exit")) _ _ refl refl)))))))))))))))))))))))))))))))))))
 
 -- a plain symbol has no keyword of operators
 pub symbol_unmarked : (s : List ℕ) → is_mark (keyword_of_symbol s) ≡ false

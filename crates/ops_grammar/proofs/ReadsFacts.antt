@@ -1,5 +1,5 @@
 -- What is spelled of a command is read back.
-use Rattle.std.proofs.Common.{◌≡◌, ℕ, zero, suc, ◌+◌, ◌<◌, ◌≤◌, Bool, true, false, ◌||◌, ◌==◌, List, [], ◌∷◌, ◌++◌, length, map, refl, sym, ap, subst, ◌∙◌, arith, Option, Some, None, pos, nat_lt, nat_le, slice_get, append-nil, append_assoc, length-append, true≢false}
+use Rattle.std.proofs.Common.{◌&&◌, ◌≡◌, ℕ, zero, suc, ◌+◌, ◌<◌, ◌≤◌, Bool, true, false, ◌||◌, ◌==◌, List, [], ◌∷◌, ◌++◌, length, map, refl, sym, ap, subst, ◌∙◌, arith, Option, Some, None, pos, nat_lt, nat_le, slice_get, append-nil, append_assoc, length-append, true≢false}
 use Rattle.std.specs.Prelude.{if◌then◌else◌}
 use Rattle.std.specs.List.{list_all}
 use Rattle.std.proofs.lemmas.Bool.{and_parts, ltb-true, lt-ltb, leb-true, eqb-true, cond-true, cond-false}
@@ -374,6 +374,11 @@ pub watch_at-read : (n : ℕ) (more : List Word) (ws : List Wanted) (s : State) 
     → goes (spelled_short keyword.Watch (spelled_count (Some n)) ++ more) (Forms ∷ ws) s ≡ goes more (Forms ∷ ws) (record s { first = 0; commands = s.commands ++ command.Watch (Some n) ∷ [] })
 unfolding goes step
 watch_at-read n more ws s is = rw is refl
+
+pub back-read : (n : ℕ) (more : List Word) (ws : List Wanted) (s : State) → (nat_le 1 n && nat_le n 32) ≡ true
+    → goes (spelled_short keyword.Back (spelled_count (Some n)) ++ more) (Forms ∷ ws) s ≡ goes more (Forms ∷ ws) (record s { first = 0; commands = s.commands ++ command.Back n ∷ [] })
+unfolding goes step
+back-read n more ws s is = rw is refl
 
 pub all_shown-read : (classes : List Class) (more : List Word) (ws : List Wanted) (s : State)
     → goes (spelled_short keyword.Ppwm (spelled_shown classes None) ++ more) (Forms ∷ ws) s ≡ goes more (Forms ∷ ws) (record s { first = 0; commands = s.commands ++ command.Ppwm None ∷ [] })

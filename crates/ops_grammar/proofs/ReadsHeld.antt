@@ -42,7 +42,7 @@ use Rattle.ops_grammar.specs.declared.words.Word.{Word}
 use Rattle.ops_grammar.specs.declared.words.Keyword.{Keyword}
 use Rattle.ops_grammar.specs.declared.words.Keyword.TheVariants as keyword
 use Rattle.ops_grammar.specs.Words.{lexed, has_name, names_with, word_of, words_from, names_from, word_before}
-use Rattle.ops_grammar.specs.Grammar.{Use, Target, Ends, Column, TagUse, NameUse, Waiting, Wanted, State, Step, is_left, is_right, is_left_brace, is_right_brace, is_caret, is_name, is_variable, is_arrow, is_literal, is_minus, opens_choice, closes_choice, pred_of, constant_of, atom_of, value_of, small_of, is_one_of, number_of, may_declare, is_class, is_rule, form, class_declared, arranged, has_vector, with_class, is_second, attribute_declared, attributes, with_vector_last, with_vector, makes_second, vector_declared, vector_name, vector_names, class_at, class_name, attributes_of, field_at, attribute, with_test, with_put, with_fixed, with_item, with_bind, with_constant, with_bound, variable_tested, constant_tested, tested, predicated, test, place, tests, with_choice, chosen, choice, atom_at, term_at, bound_at, constant_at, is_of_action, value_for, most_brackets, no_formula, with_formula, completed, unit_bound, unit_at, expression_unit, bracketed, is_compute, operation_of, operation_at, expression_ended, expression_rest, function, source_named, source_cell, source_class, source_at, source_attribute, takes_several, ends_at_inf, source_end, with_action, with_command, with_condition, put_action, fixed_command, with_element, terms, within, one_of_several, with_several, several, rule_name, first_pattern, one_more, more_patterns, patterns, pattern, element_at, element_name, braced, closes_brace, classes_of_cells, with_rule, actions, action_word, cell_of, with_designated, with_modified, bound_name, bound_value, cell_bound, cell_name, cells, items, item_word, column_item, columns_at, ended, closes, count_of, counted, count, strategy_of, strategy_set, strategy_name, tag_at, is_all, tag_or_all, tag_command, tags, shown, named_rule, name_command, named_rules, level_of, level_set, level, forms, step, Outcome, ends, after, goes, nothing_read, InPattern, InPut, InFixed, ToTest, ToPut, ToFixed, ToTerms, ToConstants, ToItem, ToBind, EndsHalt, EndsCrlf, EndsCs, EndsExit, EndsWhole, ToTab, ToRight, ToRemove, ToShow, ToPrint, ToBreak, Forms, Form, ClassDeclared, Attributes, VectorName, VectorNames, RuleName, FirstPattern, Patterns, Pattern, Braced, ElementName, ClosesBrace, ClassName, Terms, Attribute, Several, Place, Tests, Tested, Choice, Atom, ValueFor, Function, ExpressionUnit, ExpressionRest, Bracketed, SourceCell, SourceAttribute, SourceEnd, Actions, ActionWord, Modified, BoundName, BoundValue, CellName, Cell, Cells, Items, ItemWord, Columns, Count, StrategyName, TagOrAll, Tags, Shown, NamedRule, NamedRules, Level, Closes, Next, Refuses, begins_group, GroupBrace, Members, members, group, with_group, with_member, with_one, has_room, ToExcise, ToMatch, is_beginning, rules_with, commands_with, rule_of}
+use Rattle.ops_grammar.specs.Grammar.{Use, Target, Ends, Column, TagUse, NameUse, Waiting, Wanted, State, Step, is_left, is_right, is_left_brace, is_right_brace, is_caret, is_name, is_variable, is_arrow, is_literal, is_minus, opens_choice, closes_choice, pred_of, constant_of, atom_of, value_of, small_of, is_one_of, number_of, may_declare, is_class, is_rule, form, class_declared, arranged, has_vector, with_class, is_second, attribute_declared, attributes, with_vector_last, with_vector, makes_second, vector_declared, vector_name, vector_names, class_at, class_name, attributes_of, field_at, attribute, with_test, with_put, with_fixed, with_item, with_bind, with_constant, with_bound, variable_tested, constant_tested, tested, predicated, test, place, tests, with_choice, chosen, choice, atom_at, term_at, bound_at, constant_at, is_of_action, value_for, most_brackets, no_formula, with_formula, completed, unit_bound, unit_at, expression_unit, bracketed, is_compute, operation_of, operation_at, expression_ended, expression_rest, function, source_named, source_cell, source_class, source_at, source_attribute, takes_several, ends_at_inf, source_end, with_action, with_command, with_condition, put_action, fixed_command, with_element, terms, within, one_of_several, with_several, several, rule_name, first_pattern, one_more, more_patterns, patterns, pattern, element_at, element_name, braced, closes_brace, classes_of_cells, with_rule, actions, action_word, cell_of, with_designated, with_modified, bound_name, bound_value, cell_bound, cell_name, cells, items, item_word, column_item, columns_at, ended, closes, count_of, counted, count, strategy_of, strategy_set, strategy_name, tag_at, is_all, tag_or_all, tag_command, tags, shown, named_rule, name_command, named_rules, level_of, undone_of, level_set, undone_set, level, undone, forms, step, Outcome, ends, after, goes, nothing_read, InPattern, InPut, InFixed, ToTest, ToPut, ToFixed, ToTerms, ToConstants, ToItem, ToBind, EndsHalt, EndsCrlf, EndsCs, EndsExit, EndsWhole, ToTab, ToRight, ToRemove, ToShow, ToPrint, ToBreak, Forms, Form, ClassDeclared, Attributes, VectorName, VectorNames, RuleName, FirstPattern, Patterns, Pattern, Braced, ElementName, ClosesBrace, ClassName, Terms, Attribute, Several, Place, Tests, Tested, Choice, Atom, ValueFor, Function, ExpressionUnit, ExpressionRest, Bracketed, SourceCell, SourceAttribute, SourceEnd, Actions, ActionWord, Modified, BoundName, BoundValue, CellName, Cell, Cells, Items, ItemWord, Columns, Count, StrategyName, TagOrAll, Tags, Shown, NamedRule, NamedRules, Level, Undone, Closes, Next, Refuses, begins_group, GroupBrace, Members, members, group, with_group, with_member, with_one, has_room, ToExcise, ToMatch, is_beginning, rules_with, commands_with, rule_of}
 use Rattle.ops_grammar.specs.Reads.{Read, Placed, verdict, read_lexed, reads}
 use Rattle.ops_base.specs.Symbols.{symbol_held, value_held, class_held, operand_held, part_held, condition_held, term_held, put_held, item_held, action_held, rule_held, fixed_held, command_held, is_held}
 use Rattle.ops_grammar.proofs.Lists.{all_push}
@@ -249,6 +249,7 @@ module _ (n : ℕ) (w : Word) (named : symbol_held n w.name ≡ true) where
   form_keeps keyword.Pm ws s h = assumption (refl, h)
   form_keeps keyword.Strategy ws s h = h
   form_keeps keyword.Watch ws s h = h
+  form_keeps keyword.Back ws s h = h
   form_keeps keyword.Pbreak ws s h = assumption (refl, h)
   form_keeps keyword.Excise ws s h = assumption (refl, h)
   form_keeps keyword.Matches ws s h = assumption (refl, h)
@@ -647,9 +648,17 @@ module _ (n : ℕ) (w : Word) (named : symbol_held n w.name ≡ true) where
   level_set_keeps (Some m) ws s h = command_kept n s (command.Watch (Some m)) h refl
   level_set_keeps None ws s h = tt
 
+  undone_set_keeps : (o : Option ℕ) (ws : List Wanted) (s : State) → AreHeld n s → Keeps n (undone_set o ws s)
+  undone_set_keeps (Some m) ws s h = command_kept n s (command.Back m) h refl
+  undone_set_keeps None ws s h = tt
+
   level_keeps : (ws : List Wanted) (s : State) → AreHeld n s → Keeps n (level w ws s)
   level_keeps ws s h =
       cond_both (is_right w.kind) _ _ (Keeps n) (λ _. command_kept n s (command.Watch None) h refl) (λ _. level_set_keeps (level_of w.kind) ws s h)
+
+  undone_keeps : (ws : List Wanted) (s : State) → AreHeld n s → Keeps n (undone w ws s)
+  undone_keeps ws s h =
+      cond_both (is_right w.kind) _ _ (Keeps n) (λ _. command_kept n s (command.Back 1) h refl) (λ _. undone_set_keeps (undone_of w.kind) ws s h)
 
   -- ---- a word
 
@@ -707,6 +716,7 @@ module _ (n : ℕ) (w : Word) (named : symbol_held n w.name ≡ true) where
   step_keeps (NamedRule ∷ ws) s h = named_rule_keeps ws s h
   step_keeps (NamedRules u ∷ ws) s h = named_rules_keeps u ws s h
   step_keeps (Level ∷ ws) s h = level_keeps ws s h
+  step_keeps (Undone ∷ ws) s h = undone_keeps ws s h
   step_keeps (Closes e ∷ ws) s h = closes_keeps e ws s h
 
 -- ---- names only grow

@@ -22,7 +22,7 @@ use Rattle.ops_grammar.proofs.Lists.{all_weaker}
 use Rattle.ops_grammar.proofs.Places.{numbered}
 use Rattle.ops_grammar.proofs.Numbering.{after_condition-given, below}
 use Rattle.ops_grammar.proofs.ReadsBack.{apart_before, vector-read, IsUnder, class-read}
-use Rattle.ops_grammar.proofs.ReadsFacts.{AreNamed, fact-read, shown-read, all_shown-read, remove-read, remove_all-read, wm-read, pm-read, pbreak-read, run-read, run_so_often-read, strategy-read, watch-read, watch_at-read, cs-read, exit-read, excise-read, matches-read}
+use Rattle.ops_grammar.proofs.ReadsFacts.{AreNamed, fact-read, shown-read, all_shown-read, remove-read, remove_all-read, wm-read, pm-read, pbreak-read, run-read, run_so_often-read, strategy-read, watch-read, watch_at-read, back-read, cs-read, exit-read, excise-read, matches-read}
 use Rattle.ops_grammar.proofs.ReadsRight.{Trail, acted, actions-read}
 use Rattle.ops_grammar.proofs.ReadsRules.{Left, left_after, left_behind, matched, cells_behind, first-read, conditions-read}
 use Rattle.ops_grammar.proofs.Added.{title, distinct_front, late_at}
@@ -336,7 +336,7 @@ command_read classes rules (command.Add r) done rest names plain may =
     )
 command_read classes rules (command.Excise ns) done rest names plain may = (record rest { first = 0 }, λ more. excise-read ns more [] (idle rest classes rules done) plain)
 command_read classes rules (command.Matches ns) done rest names plain may = (record rest { first = 0 }, λ more. matches-read ns more [] (idle rest classes rules done) plain)
-command_read classes rules (command.Back n) done rest names plain may = absurd (true≢false (sym plain))
+command_read classes rules (command.Back n) done rest names plain may = (record rest { first = 0 }, λ more. back-read n more [] (idle rest classes rules done) plain)
 
 commands_read : (classes : List Class) (rules : List Rule) (cs done : List Command) (rest : Rest) → AreNamed classes → list_all (command_is_plain classes) cs ≡ true
     → titles_are_distinct rules (done ++ cs) ≡ true → adds_late (done ++ cs) ≡ true

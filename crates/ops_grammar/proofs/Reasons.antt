@@ -20,7 +20,7 @@ use Rattle.ops_tokens.specs.declared.token.TokenKind.TheVariants as kind
 use Rattle.ops_grammar.specs.declared.words.Word.{Word}
 use Rattle.ops_grammar.specs.declared.words.Keyword.{Keyword}
 use Rattle.ops_grammar.specs.declared.words.Keyword.TheVariants as keyword
-use Rattle.ops_grammar.specs.Grammar.{Use, InPattern, InPut, InFixed, Target, ToTest, ToPut, ToFixed, ToTerms, ToConstants, ToItem, ToBind, EndsWhole, TagUse, ToRemove, NameUse, Column, Wanted, Forms, Form, ClassDeclared, Attributes, VectorName, VectorNames, RuleName, FirstPattern, Patterns, Pattern, Braced, ElementName, ClosesBrace, ClassName, Terms, Attribute, Several, Place, Tests, Tested, Choice, Atom, ValueFor, Function, Waiting, ExpressionUnit, ExpressionRest, Bracketed, SourceCell, SourceAttribute, SourceEnd, Actions, ActionWord, Modified, BoundName, BoundValue, CellName, Cell, Cells, Items, ItemWord, Columns, Count, StrategyName, TagOrAll, Tags, Shown, NamedRule, NamedRules, Level, Closes, State, Step, Next, Refuses, is_left, is_right, is_left_brace, is_right_brace, is_caret, is_name, is_variable, is_arrow, is_literal, is_minus, opens_choice, closes_choice, pred_of, constant_of, value_of, atom_of, natural_of, small_of, is_one_of, number_of, may_declare, is_class, is_rule, is_second, makes_second, vector_name, form, class_at, attributes_of, field_at, variable_tested, constant_tested, tested, predicated, test, place, chosen, atom_at, term_at, bound_at, constant_at, is_of_action, value_for, most_brackets, no_formula, with_formula, unit_bound, unit_at, expression_unit, bracketed, completed, is_compute, operation_of, operation_at, expression_ended, expression_rest, function, source_named, source_class, source_at, takes_several, ends_at_inf, source_end, within, one_of_several, several, element_at, element_name, action_word, designated, numbered_cell, named_cell, cell_of, with_designated, with_modified, cell_bound, item_word, columns_at, counted, count_of, count, strategy_set, strategy_of, strategy_name, tag_at, is_all, tag_or_all, tags, shown, named_rule, named_rules, level_of, level_set, level, step, is_absent, begins_group, GroupBrace, Members, has_room}
+use Rattle.ops_grammar.specs.Grammar.{Use, InPattern, InPut, InFixed, Target, ToTest, ToPut, ToFixed, ToTerms, ToConstants, ToItem, ToBind, EndsWhole, TagUse, ToRemove, NameUse, Column, Wanted, Forms, Form, ClassDeclared, Attributes, VectorName, VectorNames, RuleName, FirstPattern, Patterns, Pattern, Braced, ElementName, ClosesBrace, ClassName, Terms, Attribute, Several, Place, Tests, Tested, Choice, Atom, ValueFor, Function, Waiting, ExpressionUnit, ExpressionRest, Bracketed, SourceCell, SourceAttribute, SourceEnd, Actions, ActionWord, Modified, BoundName, BoundValue, CellName, Cell, Cells, Items, ItemWord, Columns, Count, StrategyName, TagOrAll, Tags, Shown, NamedRule, NamedRules, Level, Undone, Closes, State, Step, Next, Refuses, is_left, is_right, is_left_brace, is_right_brace, is_caret, is_name, is_variable, is_arrow, is_literal, is_minus, opens_choice, closes_choice, pred_of, constant_of, value_of, atom_of, natural_of, small_of, is_one_of, number_of, may_declare, is_class, is_rule, is_second, makes_second, vector_name, form, class_at, attributes_of, field_at, variable_tested, constant_tested, tested, predicated, test, place, chosen, atom_at, term_at, bound_at, constant_at, is_of_action, value_for, most_brackets, no_formula, with_formula, unit_bound, unit_at, expression_unit, bracketed, completed, is_compute, operation_of, operation_at, expression_ended, expression_rest, function, source_named, source_class, source_at, takes_several, ends_at_inf, source_end, within, one_of_several, several, element_at, element_name, action_word, designated, numbered_cell, named_cell, cell_of, with_designated, with_modified, cell_bound, item_word, columns_at, counted, count_of, count, strategy_set, strategy_of, strategy_name, tag_at, is_all, tag_or_all, tags, shown, named_rule, named_rules, level_of, undone_of, level_set, undone_set, level, undone, step, is_absent, begins_group, GroupBrace, Members, has_room}
 use Rattle.ops_grammar.specs.Derivation.{is_designator}
 use Rattle.ops_grammar.specs.Reasons.{no_form_fault, is_declaration, wants_class, gives_second, is_full, nests_deepest, wants_bound, is_bound, is_positive, is_condition, designates, is_unclear, designates_unclearly, wants_cell, is_bad_designator, Because}
 use Rattle.ops_grammar.proofs.Arranged.{AreArranged, functions_fit}
@@ -68,6 +68,7 @@ module _ (w : Word) (ws : List Wanted) (s : State) where
   form_reason keyword.Pm e = tt
   form_reason keyword.Strategy e = tt
   form_reason keyword.Watch e = tt
+  form_reason keyword.Back e = tt
   form_reason keyword.Pbreak e = tt
   form_reason keyword.Excise e = tt
   form_reason keyword.Matches e = tt
@@ -367,8 +368,16 @@ module _ (w : Word) (ws : List Wanted) (s : State) where
   level_set_reason (Some n) = tt
   level_set_reason None = refl
 
+  -- the number of firings that are undone
+  undone_set_reason : (o : Option ℕ) → At (Undone ∷ ws) (undone_set o ws s)
+  undone_set_reason (Some n) = tt
+  undone_set_reason None = refl
+
   level_reason : At (Level ∷ ws) (level w ws s)
   level_reason = cond_both (is_right w.kind) _ _ (At (Level ∷ ws)) (λ _. tt) (λ _. level_set_reason (level_of w.kind))
+
+  undone_reason : At (Undone ∷ ws) (undone w ws s)
+  undone_reason = cond_both (is_right w.kind) _ _ (At (Undone ∷ ws)) (λ _. tt) (λ _. undone_set_reason (undone_of w.kind))
 
 step_reason : (w : Word) (ws : List Wanted) (s : State) → AreArranged ws s → HasReason ws w s (step w ws s)
 unfolding step
@@ -467,6 +476,7 @@ step_reason w (Shown ∷ ws) s arranged = shown_reason w ws s
 step_reason w (NamedRule ∷ ws) s arranged = named_rule_reason w ws s (NamedRule ∷ ws) ws refl
 step_reason w (NamedRules u ∷ ws) s arranged = named_rules_reason w ws s u
 step_reason w (Level ∷ ws) s arranged = level_reason w ws s
+step_reason w (Undone ∷ ws) s arranged = undone_reason w ws s
 step_reason w (Closes e ∷ ws) s arranged = cond_both (is_right w.kind) _ _ (HasReason (Closes e ∷ ws) w s) (λ _. tt) (λ _. refl)
 
 -- A word is refused for the reason that the fault names.

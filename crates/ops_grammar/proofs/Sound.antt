@@ -13,7 +13,7 @@ use Rattle.ops_base.specs.declared.commands.Command.{Command}
 use Rattle.ops_base.specs.Expression.{Formula, all_variables}
 use Rattle.ops_base.specs.Valid.{most_fields, most_conditions, are_distinct, class_of, class_is_valid, is_attribute, is_vector, is_field, is_in, Sight, tests_are_valid, sight_after_tests, parts_are_valid, sight_after_parts, nothing_in_sight, first_is_positive, cells_of, known_of, is_cell, class_of_cell, is_natural, Known, known_after_actions, term_is_valid, put_is_valid, item_is_valid, actions_are_valid, rule_is_valid, fixed_is_valid, command_is_valid, elements_of, members_are_valid, sight_after_members, builds_from, rule_builds_from, command_builds_from}
 use Rattle.ops_grammar.specs.declared.words.Named.{Named}
-use Rattle.ops_grammar.specs.Grammar.{Use, InPattern, InPut, InFixed, Target, ToTest, ToPut, ToFixed, ToTerms, ToConstants, ToItem, ToBind, EndsHalt, EndsCrlf, EndsCs, EndsExit, EndsWhole, Column, TagUse, ToRemove, ToShow, NameUse, ToPrint, ToBreak, Wanted, Forms, Form, ClassDeclared, Attributes, VectorName, VectorNames, RuleName, FirstPattern, Patterns, Pattern, Braced, ElementName, ClosesBrace, ClassName, Terms, Attribute, Several, Place, Tests, Tested, Choice, Atom, ValueFor, Function, Waiting, ExpressionUnit, ExpressionRest, Bracketed, SourceCell, SourceAttribute, SourceEnd, Actions, ActionWord, Modified, BoundName, BoundValue, CellName, Cell, Cells, Items, ItemWord, Columns, Count, StrategyName, TagOrAll, Tags, Shown, NamedRule, NamedRules, Level, Closes, precedes_classes, State, Step, Next, Refuses, GroupBrace, Members, with_several, ToExcise, ToMatch, added_by, has_title}
+use Rattle.ops_grammar.specs.Grammar.{Use, InPattern, InPut, InFixed, Target, ToTest, ToPut, ToFixed, ToTerms, ToConstants, ToItem, ToBind, EndsHalt, EndsCrlf, EndsCs, EndsExit, EndsWhole, Column, TagUse, ToRemove, ToShow, NameUse, ToPrint, ToBreak, Wanted, Forms, Form, ClassDeclared, Attributes, VectorName, VectorNames, RuleName, FirstPattern, Patterns, Pattern, Braced, ElementName, ClosesBrace, ClassName, Terms, Attribute, Several, Place, Tests, Tested, Choice, Atom, ValueFor, Function, Waiting, ExpressionUnit, ExpressionRest, Bracketed, SourceCell, SourceAttribute, SourceEnd, Actions, ActionWord, Modified, BoundName, BoundValue, CellName, Cell, Cells, Items, ItemWord, Columns, Count, StrategyName, TagOrAll, Tags, Shown, NamedRule, NamedRules, Level, Undone, Closes, precedes_classes, State, Step, Next, Refuses, GroupBrace, Members, with_several, ToExcise, ToMatch, added_by, has_title}
 use Rattle.ops_grammar.specs.Spelling.{titles_are_distinct, is_add, adds_late}
 
 -- the form that is read began before the first place, and no list is longer than that place, but those of attributes
@@ -430,6 +430,7 @@ pub data IsRead (text : ℕ) (s : State) : List Wanted → Type 0 where
   at_named_rule : (u : NameUse) → (Program text s) → IsRead text s (NamedRule ∷ NamedRules u ∷ Forms ∷ [])
   at_named_rules : (u : NameUse) → (AtNames u text s) → IsRead text s (NamedRules u ∷ Forms ∷ [])
   at_level : (Program text s) → IsRead text s (Level ∷ Forms ∷ [])
+  at_undone : (Program text s) → IsRead text s (Undone ∷ Forms ∷ [])
   at_cs : (Program text s) → IsRead text s (Closes EndsCs ∷ Forms ∷ [])
   at_exit : (Program text s) → IsRead text s (Closes EndsExit ∷ Forms ∷ [])
   at_command_end : (Program text s) → IsRead text s (Closes EndsWhole ∷ Forms ∷ [])

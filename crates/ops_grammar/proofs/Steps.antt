@@ -26,9 +26,9 @@ use Rattle.ops_tokens.specs.declared.token.TokenKind.TheVariants as kind
 use Rattle.ops_grammar.specs.declared.words.Word.{Word}
 use Rattle.ops_grammar.specs.declared.words.Keyword.{Keyword}
 use Rattle.ops_grammar.specs.declared.words.Keyword.TheVariants as keyword
-use Rattle.ops_grammar.specs.Grammar.{Use, InPattern, InPut, InFixed, ToTest, ToFixed, ToConstants, EndsCs, EndsExit, EndsWhole, TagUse, ToRemove, ToShow, NameUse, ToPrint, ToBreak, Wanted, Forms, Attributes, VectorNames, FirstPattern, Patterns, Pattern, ClosesBrace, Terms, Several, Choice, Actions, Tags, NamedRules, Closes, State, Step, Next, Refuses, is_left, is_right, is_left_brace, is_right_brace, is_caret, is_name, is_variable, is_arrow, is_literal, is_minus, opens_choice, closes_choice, pred_of, constant_of, value_of, atom_of, small_of, count_of, precedes_classes, is_one_of, number_of, may_declare, is_class, is_rule, form, class_declared, with_vector_last, makes_second, vector_declared, vector_name, vector_names, is_second, attribute_declared, attributes, class_at, class_name, attributes_of, behind_attribute, field_at, attribute, with_test, with_bound, variable_tested, constant_tested, tested, predicated, test, place, tests, with_choice, chosen, choice, atom_at, bound_at, constant_at, value_for, fixed_command, with_element, terms, within, one_of_several, with_several, several, left_ended, right_begun, rule_name, first_pattern, one_more, patterns, pattern, element_at, element_name, braced, closes_brace, put_action, closes, forms, step, counted, count, strategy_of, strategy_set, strategy_name, with_command, tag_at, is_all, tag_or_all, tag_command, tags, shown, named_rule, name_command, named_rules, level_of, level_set, level, begins_group, members, group, with_group, with_member, with_one, has_room, ClassName, ToExcise, ToMatch}
+use Rattle.ops_grammar.specs.Grammar.{Use, InPattern, InPut, InFixed, ToTest, ToFixed, ToConstants, EndsCs, EndsExit, EndsWhole, TagUse, ToRemove, ToShow, NameUse, ToPrint, ToBreak, Wanted, Forms, Attributes, VectorNames, FirstPattern, Patterns, Pattern, ClosesBrace, Terms, Several, Choice, Actions, Tags, NamedRules, Closes, State, Step, Next, Refuses, is_left, is_right, is_left_brace, is_right_brace, is_caret, is_name, is_variable, is_arrow, is_literal, is_minus, opens_choice, closes_choice, pred_of, constant_of, value_of, atom_of, small_of, count_of, precedes_classes, is_one_of, number_of, may_declare, is_class, is_rule, form, class_declared, with_vector_last, makes_second, vector_declared, vector_name, vector_names, is_second, attribute_declared, attributes, class_at, class_name, attributes_of, behind_attribute, field_at, attribute, with_test, with_bound, variable_tested, constant_tested, tested, predicated, test, place, tests, with_choice, chosen, choice, atom_at, bound_at, constant_at, value_for, fixed_command, with_element, terms, within, one_of_several, with_several, several, left_ended, right_begun, rule_name, first_pattern, one_more, patterns, pattern, element_at, element_name, braced, closes_brace, put_action, closes, forms, step, counted, count, strategy_of, strategy_set, strategy_name, with_command, tag_at, is_all, tag_or_all, tag_command, tags, shown, named_rule, name_command, named_rules, level_of, undone_of, level_set, undone_set, level, undone, begins_group, members, group, with_group, with_member, with_one, has_room, ClassName, ToExcise, ToMatch}
 use Rattle.ops_grammar.proofs.Lists.{all_push, not_below}
-use Rattle.ops_grammar.proofs.Sound.{other_is_sound, IsShortBy, IsShort, IsHead, known_in, IsNamed, IsOfClass, Program, Declaring, IsClass, Head, Body, Around, IsEmpty, IsElement, Braces, Bare, NamedBefore, NamedBehind, AtField, HasMore, AtPlace, AtSeveral, BeforePattern, AfterPattern, behind, behind_place, behind_test, variables_of, side_of, IsRead, at_forms, at_form, at_class_declared, at_attributes, at_vector_name, at_vector_names, at_rule_name, at_first_pattern, at_patterns, at_pattern, at_braced, at_element_name, at_closes_brace, at_class_name, at_terms, at_attribute, at_several, at_place, at_tests, at_tested, at_choice, at_test_atom, at_fixed_value, at_fixed_atom, at_constants_atom, InScalar, InVector, at_value, at_atom, at_function, at_expression_unit, at_bracketed, at_expression_rest, at_source_cell, at_source_attribute, at_source_end, at_value_end, at_actions, at_action_word, at_modified, at_bound_name, at_bound_value, at_cell_name, at_action_end, at_cell, at_cells, at_items, at_item_word, at_columns, at_crlf, at_halt, at_count, at_strategy_name, HasTags, HasNames, AtTags, AtNames, at_tag_or_all, at_tags, at_shown, at_named_rule, at_named_rules, at_level, at_cs, at_exit, at_command_end, Leads, at, AsMember, AmongMembers, at_group, at_members, inside, outer, several_at}
+use Rattle.ops_grammar.proofs.Sound.{other_is_sound, IsShortBy, IsShort, IsHead, known_in, IsNamed, IsOfClass, Program, Declaring, IsClass, Head, Body, Around, IsEmpty, IsElement, Braces, Bare, NamedBefore, NamedBehind, AtField, HasMore, AtPlace, AtSeveral, BeforePattern, AfterPattern, behind, behind_place, behind_test, variables_of, side_of, IsRead, at_forms, at_form, at_class_declared, at_attributes, at_vector_name, at_vector_names, at_rule_name, at_first_pattern, at_patterns, at_pattern, at_braced, at_element_name, at_closes_brace, at_class_name, at_terms, at_attribute, at_several, at_place, at_tests, at_tested, at_choice, at_test_atom, at_fixed_value, at_fixed_atom, at_constants_atom, InScalar, InVector, at_value, at_atom, at_function, at_expression_unit, at_bracketed, at_expression_rest, at_source_cell, at_source_attribute, at_source_end, at_value_end, at_actions, at_action_word, at_modified, at_bound_name, at_bound_value, at_cell_name, at_action_end, at_cell, at_cells, at_items, at_item_word, at_columns, at_crlf, at_halt, at_count, at_strategy_name, HasTags, HasNames, AtTags, AtNames, at_tag_or_all, at_tags, at_shown, at_named_rule, at_named_rules, at_level, at_undone, at_cs, at_exit, at_command_end, Leads, at, AsMember, AmongMembers, at_group, at_members, inside, outer, several_at}
 use Rattle.ops_grammar.proofs.Parts.{no_elements}
 use Rattle.ops_grammar.proofs.Grown.{fits_below, class_begun, attribute_added, class_added, vector_added, number_in, head_begun, negated_begun, element_bound, test_kept, test_bound, test_valid, condition_added, body_begun, put_known, vector_parts, several_valid, command_added, fixed_valid, vector_within, constants_valid, group_opened, member_added, group_added}
 use Rattle.ops_grammar.proofs.ValueSteps.{IsPlaced, added, atom_leads, value_leads, bound_value_leads, function_leads, expression_unit_leads, bracketed_leads, expression_rest_leads, source_cell_leads, source_attribute_leads, source_end_leads, value_end_leads}
@@ -47,6 +47,10 @@ count_natural _ k e = absurd (cc)
 level_small : (t : TokenKind) (k : ℕ) → level_of t ≡ Some k → nat_le k 2 ≡ true
 level_small (kind.Whole (pos m)) k e = tested_by (λ j. nat_le j 2) (nat_le m 2) m k refl e
 level_small _ k e = absurd (cc)
+
+undone_small : (t : TokenKind) (k : ℕ) → undone_of t ≡ Some k → (nat_le 1 k && nat_le k 32) ≡ true
+undone_small (kind.Whole (pos m)) k e = tested_by (λ j. nat_le 1 j && nat_le j 32) (nat_le 1 m && nat_le m 32) m k refl e
+undone_small _ k e = absurd (cc)
 
 -- with one more there are enough
 tag_enough : (u : TagUse) (tags : List ℕ) (tag : ℕ) → HasTags u (tags ++ tag ∷ [])
@@ -97,6 +101,7 @@ module _ (text n : ℕ) (w : Word) (fit : text ≤ longest_list) (placed : IsPla
   form_leads s short g keyword.Pm = (omega arith, at_named_rule ToPrint g)
   form_leads s short g keyword.Strategy = (omega arith, at_strategy_name g)
   form_leads s short g keyword.Watch = (omega arith, at_level g)
+  form_leads s short g keyword.Back = (omega arith, at_undone g)
   form_leads s short g keyword.Pbreak = (omega arith, at_named_rules ToBreak (g, tt))
   form_leads s short g keyword.Excise = (omega arith, at_named_rule ToExcise g)
   form_leads s short g keyword.Matches = (omega arith, at_named_rule ToMatch g)
@@ -563,10 +568,19 @@ module _ (text n : ℕ) (w : Word) (fit : text ≤ longest_list) (placed : IsPla
   level_set_leads s short g (Some k) e = whole_command_leads (command.Watch (Some k)) s short g (and_from _ _ (level_small w.kind k e) refl)
   level_set_leads s short g None e = tt
 
+  undone_set_leads : (s : State) → IsShort n s → Program text s → (o : Option ℕ) → undone_of w.kind ≡ o → Leads text w.past (undone_set o (Forms ∷ []) s)
+  undone_set_leads s short g (Some k) e = whole_command_leads (command.Back k) s short g (and_from _ _ (undone_small w.kind k e) refl)
+  undone_set_leads s short g None e = tt
+
   level_leads : (s : State) → IsShort n s → Program text s → Leads text w.past (level w (Forms ∷ []) s)
   level_leads s short g =
       cond_both (is_right w.kind) _ _ (Leads text w.past) (λ _. command_leads (command.Watch None) s short g refl)
       (λ _. level_set_leads s short g (level_of w.kind) refl)
+
+  undone_leads : (s : State) → IsShort n s → Program text s → Leads text w.past (undone w (Forms ∷ []) s)
+  undone_leads s short g =
+      cond_both (is_right w.kind) _ _ (Leads text w.past) (λ _. command_leads (command.Back 1) s short g refl)
+      (λ _. undone_set_leads s short g (undone_of w.kind) refl)
 
   tag_leads : (u : TagUse) (s : State) → IsShort n s → Program text s → list_all is_natural s.tags ≡ true → (o : Option ℕ) → count_of w.kind ≡ o → Leads text w.past (tag_at o (Tags u ∷ Forms ∷ []) s)
   tag_leads u s short g natural (Some k) e =
@@ -677,6 +691,7 @@ module _ (text n : ℕ) (w : Word) (fit : text ≤ longest_list) (placed : IsPla
   step_leads s ws short (at_named_rule u g) = named_rule_leads u s short g
   step_leads s ws short (at_named_rules u g) = named_rules_leads u s short g
   step_leads s ws short (at_level g) = level_leads s short g
+  step_leads s ws short (at_undone g) = undone_leads s short g
   step_leads s ws short (at_cs g) = cs_leads s short g
   step_leads s ws short (at_exit g) = exit_leads s short g
   step_leads s ws short (at_command_end g) = command_end_leads s short g

@@ -95,7 +95,7 @@ pub data Wanted : Type 0 where
   -- literalize NAME NAME* ) | vector-attribute NAME NAME* ) | p NAME first condition* --> action* ) | make CLASS fixed* )
   -- | remove NAT NAT* ) | remove * ) | run [NAT] ) | wm NAT* ) | ppwm ) | ppwm CLASS fixed* ) | cs ) | pm NAME NAME* )
   -- | strategy ) | strategy lex ) | strategy mea ) | watch ) | watch 0 ) | watch 1 ) | watch 2 ) | pbreak NAME* )
-  -- | excise NAME NAME* ) | matches NAME NAME* ) | exit )
+  -- | excise NAME NAME* ) | matches NAME NAME* ) | back [UNDONE] ) | exit )
   Form : Wanted
   -- NAME
   ClassDeclared : Wanted
@@ -199,6 +199,8 @@ pub data Wanted : Type 0 where
   NamedRules : (use_of : NameUse) → Wanted
   -- 0 ) | 1 ) | 2 ) | )
   Level : Wanted
+  -- UNDONE ) | )
+  Undone : Wanted
   -- )
   Closes : (what : Ends) → Wanted
 
@@ -478,6 +480,7 @@ form w keyword.Watch ws s = Next (Level ∷ ws) s
 form w keyword.Pbreak ws s = Next (NamedRules ToBreak ∷ ws) (record s { named = [] })
 form w keyword.Excise ws s = Next (NamedRule ∷ NamedRules ToExcise ∷ ws) (record s { named = [] })
 form w keyword.Matches ws s = Next (NamedRule ∷ NamedRules ToMatch ∷ ws) (record s { named = [] })
+form w keyword.Back ws s = Next (Undone ∷ ws) s
 form w keyword.Exit ws s = Next (Closes EndsExit ∷ ws) s
 form w _ ws s = Refuses fault.UnknownCommand
 
@@ -1270,6 +1273,19 @@ level_set None ws s = Refuses fault.BadForm
 abbrev pub level : Word → List Wanted → State → Step
 level w ws s = if is_right w.kind then Next ws (with_command s (command.Watch None)) else level_set (level_of w.kind) ws s
 
+-- how many firings are undone, from 1 to 32
+abbrev pub undone_of : TokenKind → Option ℕ
+undone_of (kind.Whole (pos n)) = if nat_le 1 n && nat_le n 32 then Some n else None
+undone_of _ = None
+
+abbrev pub undone_set : Option ℕ → List Wanted → State → Step
+undone_set (Some n) ws s = Next (Closes EndsWhole ∷ ws) (with_command s (command.Back n))
+undone_set None ws s = Refuses fault.BadForm
+
+-- UNDONE ) | ), which is one
+abbrev pub undone : Word → List Wanted → State → Step
+undone w ws s = if is_right w.kind then Next ws (with_command s (command.Back 1)) else undone_set (undone_of w.kind) ws s
+
 -- ---- the walk over the words
 
 -- a form begins at its bracket
@@ -1330,6 +1346,7 @@ step w (Shown ∷ ws) s = shown w ws s
 step w (NamedRule ∷ ws) s = named_rule w ws s
 step w (NamedRules u ∷ ws) s = named_rules u w ws s
 step w (Level ∷ ws) s = level w ws s
+step w (Undone ∷ ws) s = undone w ws s
 step w (Closes e ∷ ws) s = closes e w ws s
 
 -- the state that was reached, or the fault at the word that goes on to nothing, and at none where the words end too early

@@ -120,7 +120,7 @@ spelled_shown classes (Some p) = spelled_constants (class_of classes p.0) p.1
 abbrev pub spelled_tags : List ℕ → List Word
 spelled_tags tags = map (λ n. spelled_value (value.Whole (pos n))) tags
 
--- [NAT], or a trace level
+-- [NAT], or a trace level, or how many firings are undone
 abbrev pub spelled_count : Option ℕ → List Word
 spelled_count None = []
 spelled_count (Some n) = spelled_value (value.Whole (pos n)) ∷ []
@@ -459,8 +459,7 @@ spelled_command classes command.Exit = spelled_short keyword.Exit []
 spelled_command classes (command.Add r) = spelled_rule classes r
 spelled_command classes (command.Excise names) = spelled_short keyword.Excise (map spelled_name names)
 spelled_command classes (command.Matches names) = spelled_short keyword.Matches (map spelled_name names)
--- no text reads as this one
-spelled_command classes (command.Back count) = []
+spelled_command classes (command.Back count) = spelled_short keyword.Back (spelled_count (Some count))
 
 -- the names of the classes' vector attributes
 abbrev pub vectors_of : List Class → List Sym
@@ -498,7 +497,7 @@ command_is_plain classes command.Exit = true
 command_is_plain classes (command.Add r) = rule_is_plain classes r
 command_is_plain classes (command.Excise names) = nat_lt 0 (length names)
 command_is_plain classes (command.Matches names) = nat_lt 0 (length names)
-command_is_plain classes (command.Back count) = false
+command_is_plain classes (command.Back count) = nat_le 1 count && nat_le count 32
 
 -- none of the productions has the name of another, whether it stands at the beginning or is added
 abbrev pub titles_are_distinct : List Rule → List Command → Bool

@@ -25,6 +25,7 @@ keyword_of_command s =
     else if bytes_eq s (codes "pbreak") then keyword.Pbreak
     else if bytes_eq s (codes "excise") then keyword.Excise
     else if bytes_eq s (codes "matches") then keyword.Matches
+    else if bytes_eq s (codes "back") then keyword.Back
     else if bytes_eq s (codes "exit") then keyword.Exit
     else keyword.Other
 

@@ -41,6 +41,8 @@ pub enum Keyword {
     Excise,
     /// `matches`
     Matches,
+    /// `back`
+    Back,
     /// `exit`
     Exit,
     /// `modify`

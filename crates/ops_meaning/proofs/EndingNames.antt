@@ -19,9 +19,10 @@ use Rattle.ops_io.specs.Output.{column_after}
 use Rattle.ops_meaning.specs.Acting.{Setting, Misdeed, Bad, NoInput, acted}
 use Rattle.ops_meaning.specs.Effects.{Effect, writes, and_then}
 use Rattle.ops_meaning.specs.Layout.{firing_bytes, rule_name}
-use Rattle.ops_meaning.specs.Running.{Course, Turned, Session, LastFiring, begun, in_force, turn, line_of_pause, last_of, one_less, given_by, ended_in, with_course, turned_of, firing, run_on, next_to_fire, command_done, commands_done, session_of, is_exit, strategy_given, level_given, breaks_given, rule_named, taken_out, taken_out_named, added}
+use Rattle.ops_meaning.specs.Running.{Course, Turned, Session, LastFiring, begun, in_force, turn, line_of_pause, last_of, one_less, given_by, ended_in, with_course, turned_of, firing, run_on, next_to_fire, command_done, commands_done, session_of, is_exit, strategy_given, level_given, breaks_given, rule_named, taken_out, taken_out_named, added, fired_on}
 use Rattle.ops_meaning.proofs.Doings.{goes_on, goes_as, EndsActions, KeptActed, acted_kept}
 use Rattle.ops_meaning.proofs.NamesKept.{IsToldBy, name_held}
+use Rattle.ops_meaning.proofs.Trails.{back_leaves}
 
 both : (a b : Bool) → (a && b) ≡ true → (a ≡ true) × (b ≡ true)
 both true b h = (refl, h)
@@ -82,21 +83,21 @@ module _ (n : ℕ) (some : 0 < n) where
       goes_as (KeptActed m.wm m.last m.names m.coming.fails) Any (EndsActions m.coming.fails) Told (turned_of s.rules i m) (ended_in (m.firings + 1) i.rule (rule_name s.rules i.rule)) (acted s behind i (given_by m)).outcome
       (acted_kept s behind i (given_by m)) (λ a q. tt) (λ e q. ended_told (m.firings + 1) i.rule (rule_name s.rules i.rule) e (name_held n s.rules i.rule some p))
 
-  turn_told : (column : ℕ) (line : Option (List ℕ)) (m : Course) (next : Option Inst) (go_on : Inst → Effect Ending Course)
-      → ((i : Inst) → MatchResult (go_on i).outcome Any Told) → MatchResult (turn column line m next go_on).outcome Any Told
-  turn_told column (Some line) m next go_on q = tt
-  turn_told column None m None go_on q = tt
-  turn_told column None m (Some i) go_on q = q i
+  turn_told : (column : ℕ) (line : Option (List ℕ)) (k : Session) (next : Option Inst) (go_on : Inst → Effect Ending Session) → Held k
+      → ((i : Inst) → MatchResult (go_on i).outcome Held Told) → MatchResult (turn column line k next go_on).outcome Held Told
+  turn_told column (Some line) k next go_on p q = p
+  turn_told column None k None go_on p q = p
+  turn_told column None k (Some i) go_on p q = q i
 
-  run_told : (left : ℕ) (s : Setting) (breaks : List Bool) (column : ℕ) (last : Option LastFiring) (count : Option ℕ) (m : Course) → AreHeld s.rules
-      → MatchResult (run_on left s breaks column last count m).outcome Any Told
-  run_told zero s breaks column last count m p =
-      turn_told column (line_of_pause m.names s.rules breaks last count) m (next_to_fire s.rules m) _ (λ i. tt)
-  run_told (suc left) s breaks column last count m p =
-      turn_told column (line_of_pause m.names s.rules breaks last count) m (next_to_fire s.rules m) _
-      (λ i. let e = firing s column i m in
-      goes_on Any Any Told e.bytes e.outcome (λ (t : Turned). run_on left s breaks (column_after column e.bytes) (last_of i t) (one_less count) t.course) (firing_told s column i m p)
-      (λ t q. run_told left s breaks (column_after column e.bytes) (last_of i t) (one_less count) t.course p))
+  run_told : (left : ℕ) (s : Setting) (column : ℕ) (last : Option LastFiring) (count : Option ℕ) (k : Session) → AreHeld s.rules → Held k
+      → MatchResult (run_on left s column last count k).outcome Held Told
+  run_told zero s column last count k p h =
+      turn_told column (line_of_pause k.course.names s.rules k.breaks last count) k (next_to_fire s.rules k.course) _ h (λ i. tt)
+  run_told (suc left) s column last count k p h =
+      turn_told column (line_of_pause k.course.names s.rules k.breaks last count) k (next_to_fire s.rules k.course) _ h
+      (λ i. let e = firing s column i k.course in
+      goes_on Any Held Told e.bytes e.outcome (λ (t : Turned). run_on left s (column_after column e.bytes) (last_of i t) (one_less count) (fired_on t.course k)) (firing_told s column i k.course p)
+      (λ t q. run_told left s (column_after column e.bytes) (last_of i t) (one_less count) (fired_on t.course k) p h))
 
   strategy_told : (column : ℕ) (set : Option Strategy) (k : Session) → Held k → MatchResult (strategy_given column set k).outcome Held Told
   strategy_told column None k p = p
@@ -115,10 +116,7 @@ module _ (n : ℕ) (some : 0 < n) where
   command_told s limit column (command.Remove tags) k p h = p
   command_told s limit column command.RemoveAll k p h = p
   command_told s limit column (command.Run count) k p h =
-      let at : Setting = record s { rules = k.rules; watch = k.watch } in
-      let left = limit - k.course.firings in
-      goes_as Any Held Told Told (with_course k) (λ e. e) (run_on left at k.breaks column None count k.course).outcome
-      (run_told left at k.breaks column None count k.course p) (λ m q. p) (λ e q. q)
+      run_told (limit - k.course.firings) (record s { rules = k.rules; watch = k.watch }) column None count k p p
   command_told s limit column (command.Wm tags) k p h = p
   command_told s limit column (command.Ppwm pattern) k p h = p
   command_told s limit column command.Cs k p h = p
@@ -128,7 +126,7 @@ module _ (n : ℕ) (some : 0 < n) where
   command_told s limit column (command.Pbreak names) k p h = breaks_told (in_force s k) column names k p
   command_told s limit column (command.Add r) k p h = added_held r k p h
   command_told s limit column (command.Excise given) k p h = excised_held given k p
-  command_told s limit column (command.Back count) k p h = p
+  command_told s limit column (command.Back count) k p h = back_leaves Held Told column count k p (λ n e is. p)
   command_told s limit column (command.Matches given) k p h = p
   command_told s limit column command.Exit k p h = p
 
@@ -145,4 +143,4 @@ module _ (n : ℕ) (some : 0 < n) where
 
   pub session_told : (s : Setting) (limit : ℕ) (commands : List Command) (names : Spellings) (coming : Coming) → list_all (rule_held n) s.rules ≡ true → list_all (command_held n) commands ≡ true
       → MatchResult (session_of s limit commands names coming).outcome Held Told
-  session_told s limit commands names coming rules h = commands_told s limit 0 commands (begun s.rules names coming) rules h
+  session_told s limit commands names coming rules h = commands_told s limit 0 commands (begun commands s.rules names coming) rules h

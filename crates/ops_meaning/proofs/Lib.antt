@@ -2,6 +2,7 @@ pub mod EffectLemmas
 pub mod Lawful
 pub mod NamesKept
 pub mod Doings
+pub mod Trails
 pub mod RisingTags
 pub mod InletLemmas
 pub mod Limits

@@ -15,15 +15,16 @@ use Rattle.ops_meaning.specs.Acting.{Setting, Misdeed, Bad, NoInput, acted}
 use Rattle.ops_meaning.specs.Effects.{Effect, writes, and_then}
 use Rattle.ops_meaning.specs.Kept.{TellsLimit, KeepsLimit, IsLimited, IsCounted}
 use Rattle.ops_meaning.specs.Layout.{firing_bytes, halted_line, broken_line, counted_line, rule_name}
-use Rattle.ops_meaning.specs.Running.{Course, Turned, Session, LastFiring, begun, turn, line_of_pause, has_break, last_of, one_less, given_by, ended_in, with_course, turned_of, firing, run_on, next_to_fire, command_done, commands_done, is_exit, strategy_given, level_given, breaks_given, in_force, rule_named, taken_out, taken_out_named, added}
+use Rattle.ops_meaning.specs.Running.{Course, Turned, Session, LastFiring, begun, turn, line_of_pause, has_break, last_of, one_less, given_by, ended_in, with_course, turned_of, firing, run_on, next_to_fire, command_done, commands_done, is_exit, strategy_given, level_given, breaks_given, in_force, rule_named, taken_out, taken_out_named, added, fired_on}
 use Rattle.ops_meaning.proofs.Doings.{goes_on, goes_as, ok_goes, EndsActions, KeptActed, acted_kept}
+use Rattle.ops_meaning.proofs.Trails.{back_leaves}
 
 -- what every turn leaves of a run whose end it does not come to
-turn_leaves : (P : Course → Type 0) (R : Ending → Type 0) (column : ℕ) (line : Option (List ℕ)) (m : Course) (next : Option Inst) (go_on : Inst → Effect Ending Course) → P m
-    → ((i : Inst) → MatchResult (go_on i).outcome P R) → MatchResult (turn column line m next go_on).outcome P R
-turn_leaves P R column (Some line) m next go_on p q = p
-turn_leaves P R column None m None go_on p q = p
-turn_leaves P R column None m (Some i) go_on p q = q i
+turn_leaves : (P : Session → Type 0) (R : Ending → Type 0) (column : ℕ) (line : Option (List ℕ)) (k : Session) (next : Option Inst) (go_on : Inst → Effect Ending Session) → P k
+    → ((i : Inst) → MatchResult (go_on i).outcome P R) → MatchResult (turn column line k next go_on).outcome P R
+turn_leaves P R column (Some line) k next go_on p q = p
+turn_leaves P R column None k None go_on p q = p
+turn_leaves P R column None k (Some i) go_on p q = q i
 
 -- ---- the limit
 
@@ -45,15 +46,15 @@ module _ (limit : ℕ) where
       goes_as (KeptActed m.wm m.last m.names m.coming.fails) (λ (t : Turned). t.course.firings ≡ m.firings + 1) (EndsActions m.coming.fails) (TellsLimit limit) (turned_of s.rules i m) (ended_in (m.firings + 1) i.rule (rule_name s.rules i.rule)) (acted s behind i (given_by m)).outcome
       (acted_kept s behind i (given_by m)) (λ a q. refl) (λ e q. ended_tells (m.firings + 1) i.rule (rule_name s.rules i.rule) e within)
 
-  run_limited : (left : ℕ) (s : Setting) (breaks : List Bool) (column : ℕ) (last : Option LastFiring) (count : Option ℕ) (m : Course) → m.firings + left ≡ limit
-      → MatchResult (run_on left s breaks column last count m).outcome Within (TellsLimit limit)
-  run_limited zero s breaks column last count m is =
-      turn_leaves Within (TellsLimit limit) column (line_of_pause m.names s.rules breaks last count) m (next_to_fire s.rules m) _ (omega arith) (λ i. omega arith)
-  run_limited (suc left) s breaks column last count m is =
-      turn_leaves Within (TellsLimit limit) column (line_of_pause m.names s.rules breaks last count) m (next_to_fire s.rules m) _ (omega arith)
-      (λ i. let e = firing s column i m in
-      goes_on (λ (t : Turned). t.course.firings ≡ m.firings + 1) Within (TellsLimit limit) e.bytes e.outcome (λ t. run_on left s breaks (column_after column e.bytes) (last_of i t) (one_less count) t.course) (firing_counts s column i m (omega arith))
-      (λ t q. run_limited left s breaks (column_after column e.bytes) (last_of i t) (one_less count) t.course (omega arith)))
+  run_limited : (left : ℕ) (s : Setting) (column : ℕ) (last : Option LastFiring) (count : Option ℕ) (k : Session) → k.course.firings + left ≡ limit
+      → MatchResult (run_on left s column last count k).outcome WithinSession (TellsLimit limit)
+  run_limited zero s column last count k is =
+      turn_leaves WithinSession (TellsLimit limit) column (line_of_pause k.course.names s.rules k.breaks last count) k (next_to_fire s.rules k.course) _ (omega arith) (λ i. omega arith)
+  run_limited (suc left) s column last count k is =
+      turn_leaves WithinSession (TellsLimit limit) column (line_of_pause k.course.names s.rules k.breaks last count) k (next_to_fire s.rules k.course) _ (omega arith)
+      (λ i. let e = firing s column i k.course in
+      goes_on (λ (t : Turned). t.course.firings ≡ k.course.firings + 1) WithinSession (TellsLimit limit) e.bytes e.outcome (λ t. run_on left s (column_after column e.bytes) (last_of i t) (one_less count) (fired_on t.course k)) (firing_counts s column i k.course (omega arith))
+      (λ t q. run_limited left s (column_after column e.bytes) (last_of i t) (one_less count) (fired_on t.course k) (omega arith)))
 
   strategy_limited : (column : ℕ) (set : Option Strategy) (k : Session) → WithinSession k → KeepsLimit limit (strategy_given column set k).outcome
   strategy_limited column None k p = p
@@ -89,10 +90,7 @@ module _ (limit : ℕ) where
   command_limited s column (command.Remove tags) k p = p
   command_limited s column command.RemoveAll k p = p
   command_limited s column (command.Run count) k p =
-      let at : Setting = record s { watch = k.watch } in
-      let left = limit - k.course.firings in
-      goes_as Within WithinSession (TellsLimit limit) (TellsLimit limit) (with_course k) (λ e. e) (run_on left at k.breaks column None count k.course).outcome
-      (run_limited left at k.breaks column None count k.course (omega arith)) (λ m q. q) (λ e q. q)
+      run_limited (limit - k.course.firings) (record s { watch = k.watch }) column None count k (omega arith)
   command_limited s column (command.Wm tags) k p = p
   command_limited s column (command.Ppwm pattern) k p = p
   command_limited s column command.Cs k p = p
@@ -102,7 +100,7 @@ module _ (limit : ℕ) where
   command_limited s column (command.Pbreak names) k p = breaks_limited s column names k p
   command_limited s column (command.Add r) k p = added_within r k p
   command_limited s column (command.Excise names) k p = excised_within names k p
-  command_limited s column (command.Back count) k p = p
+  command_limited s column (command.Back count) k p = back_leaves WithinSession (TellsLimit limit) column count k p (λ n e is. p)
   command_limited s column (command.Matches names) k p = p
   command_limited s column command.Exit k p = p
 
@@ -118,46 +116,47 @@ module _ (limit : ℕ) where
 -- a session keeps to its limit
 pub session_limited : (s : Setting) (limit : ℕ) (commands : List Command) (names : Spellings) → IsLimited s limit commands names
 session_limited s limit commands names coming =
-    commands_limited limit s 0 commands (begun s.rules names coming) (omega arith)
+    commands_limited limit s 0 commands (begun commands s.rules names coming) (omega arith)
 
 -- ---- the number of a run
 
-abbrev AtMost : ℕ → Course → Type 0
-AtMost bound m = m.firings ≤ bound
+abbrev AtMost : ℕ → Session → Type 0
+AtMost bound k = k.course.firings ≤ bound
 
 abbrev Any : Ending → Type 0
 Any e = Unit {0}
 
 -- a run that has made all its firings goes on in no case
-turn_stops : (P : Course → Type 0) (R : Ending → Type 0) (column : ℕ) (names : Spellings) (rules : List Rule) (breaks : List Bool) (last : Option LastFiring) (m : Course) (next : Option Inst) (go_on : Inst → Effect Ending Course) → P m
-    → MatchResult (turn column (line_of_pause names rules breaks last (Some zero)) m next go_on).outcome P R
-turn_stops P R column names rules breaks None m next go_on p = p
-turn_stops P R column names rules breaks (Some l) m next go_on p = by l.halted (has_break breaks l.rule)
+turn_stops : (P : Session → Type 0) (R : Ending → Type 0) (column : ℕ) (names : Spellings) (rules : List Rule) (last : Option LastFiring) (k : Session) (next : Option Inst) (go_on : Inst → Effect Ending Session) → P k
+    → MatchResult (turn column (line_of_pause names rules k.breaks last (Some zero)) k next go_on).outcome P R
+turn_stops P R column names rules None k next go_on p = p
+turn_stops P R column names rules (Some l) k next go_on p = by l.halted (has_break k.breaks l.rule)
   where
-    by : (halted broken : Bool) → MatchResult (turn column (cond halted (Some halted_line) (cond broken (Some (broken_line names (rule_name rules l.rule))) (Some counted_line))) m next go_on).outcome P R
+    by : (halted broken : Bool) → MatchResult (turn column (cond halted (Some halted_line) (cond broken (Some (broken_line names (rule_name rules l.rule))) (Some counted_line))) k next go_on).outcome P R
     by true broken = p
     by false true = p
     by false false = p
 
-run_counted : (bound left : ℕ) (s : Setting) (breaks : List Bool) (column : ℕ) (last : Option LastFiring) (n : ℕ) (m : Course) → m.firings + n ≡ bound
-    → MatchResult (run_on left s breaks column last (Some n) m).outcome (AtMost bound) Any
-run_counted bound zero s breaks column last n m is =
-    turn_leaves (AtMost bound) Any column (line_of_pause m.names s.rules breaks last (Some n)) m (next_to_fire s.rules m) _ (omega arith) (λ i. tt)
-run_counted bound (suc left) s breaks column last zero m is =
-    turn_stops (AtMost bound) Any column m.names s.rules breaks last m (next_to_fire s.rules m) _ (omega arith)
-run_counted bound (suc left) s breaks column last (suc n) m is =
-    turn_leaves (AtMost bound) Any column (line_of_pause m.names s.rules breaks last (Some (suc n))) m (next_to_fire s.rules m) _ (omega arith)
-    (λ i. let e = firing s column i m in
-    goes_on (λ (t : Turned). t.course.firings ≡ m.firings + 1) (AtMost bound) Any e.bytes e.outcome (λ t. run_on left s breaks (column_after column e.bytes) (last_of i t) (one_less (Some (suc n))) t.course) (counts i)
-    (λ t q. run_counted bound left s breaks (column_after column e.bytes) (last_of i t) (suc n - 1) t.course (omega arith)))
+run_counted : (bound left : ℕ) (s : Setting) (column : ℕ) (last : Option LastFiring) (n : ℕ) (k : Session) → k.course.firings + n ≡ bound
+    → MatchResult (run_on left s column last (Some n) k).outcome (AtMost bound) Any
+run_counted bound zero s column last n k is =
+    turn_leaves (AtMost bound) Any column (line_of_pause k.course.names s.rules k.breaks last (Some n)) k (next_to_fire s.rules k.course) _ (omega arith) (λ i. tt)
+run_counted bound (suc left) s column last zero k is =
+    turn_stops (AtMost bound) Any column k.course.names s.rules last k (next_to_fire s.rules k.course) _ (omega arith)
+run_counted bound (suc left) s column last (suc n) k is =
+    turn_leaves (AtMost bound) Any column (line_of_pause k.course.names s.rules k.breaks last (Some (suc n))) k (next_to_fire s.rules k.course) _ (omega arith)
+    (λ i. let e = firing s column i k.course in
+    goes_on (λ (t : Turned). t.course.firings ≡ k.course.firings + 1) (AtMost bound) Any e.bytes e.outcome (λ t. run_on left s (column_after column e.bytes) (last_of i t) (one_less (Some (suc n))) (fired_on t.course k)) (counts i)
+    (λ t q. run_counted bound left s (column_after column e.bytes) (last_of i t) (suc n - 1) (fired_on t.course k) (omega arith)))
   where
-    counts : (i : Inst) → MatchResult (firing s column i m).outcome (λ (t : Turned). t.course.firings ≡ m.firings + 1) Any
+    counts : (i : Inst) → MatchResult (firing s column i k.course).outcome (λ (t : Turned). t.course.firings ≡ k.course.firings + 1) Any
     counts i =
+        let m = k.course in
         let behind = column_after column (firing_bytes s.watch column m.names s.rules (m.firings + 1) i) in
         goes_as (KeptActed m.wm m.last m.names m.coming.fails) (λ (t : Turned). t.course.firings ≡ m.firings + 1) (EndsActions m.coming.fails) Any (turned_of s.rules i m) (ended_in (m.firings + 1) i.rule (rule_name s.rules i.rule)) (acted s behind i (given_by m)).outcome
         (acted_kept s behind i (given_by m)) (λ a q. refl) (λ e q. tt)
 
 -- a run with a number makes at most this many firings
-pub run_is_counted : (left : ℕ) (s : Setting) (m : Course) → IsCounted left s m
-run_is_counted left s m breaks column n =
-    ok_goes (AtMost (m.firings + n)) (AtMost (m.firings + n)) Any (run_on left s breaks column None (Some n) m).outcome (run_counted (m.firings + n) left s breaks column None n m refl) (λ k p. p)
+pub run_is_counted : (left : ℕ) (s : Setting) (k : Session) → IsCounted left s k
+run_is_counted left s k column n =
+    ok_goes (AtMost (k.course.firings + n)) (AtMost (k.course.firings + n)) Any (run_on left s column None (Some n) k).outcome (run_counted (k.course.firings + n) left s column None n k refl) (λ k p. p)

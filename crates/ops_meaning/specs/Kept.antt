@@ -1,6 +1,6 @@
 -- What a session keeps of working memory and of the names, that its right sides act lawfully, and that its conflict
 -- sets are the sets of all instantiations.
-use Rattle.std.specs.Prelude.{◌≡◌, ℕ, ◌≤◌, ◌+◌, List, Bool, Result, IfOk, MatchResult, Some, None, slice_get}
+use Rattle.std.specs.Prelude.{◌≡◌, ℕ, ◌≤◌, ◌+◌, List, Result, IfOk, MatchResult, Some, None, slice_get}
 use Rattle.std.specs.List.{All}
 use Rattle.ops_base.specs.declared.elements.Element.{Element}
 use Rattle.ops_base.specs.declared.rules.Rule.{Rule}
@@ -13,7 +13,7 @@ use Rattle.ops_base.specs.Instances.{IsConflictSet}
 use Rattle.ops_base.specs.Names.{Spellings}
 use Rattle.ops_io.specs.Coming.{Coming}
 use Rattle.ops_meaning.specs.Acting.{Setting, Given, Acted, acted}
-use Rattle.ops_meaning.specs.Running.{Finder, Find, Course, Session, run_on, session_by, session_of}
+use Rattle.ops_meaning.specs.Running.{Finder, Find, Session, run_on, session_by, session_of}
 
 -- The elements stand in the order of their tags, each tag once, and no tag is above the last that was given: so the next
 -- one is free.
@@ -32,7 +32,7 @@ pub record IsLawfulOver (wm : List Element) (last : ℕ) (a : Acted) : Type 0 wh
 abbrev pub ActsLawfully : Setting → ℕ → Inst → Given → Type 0
 ActsLawfully s column i g = WellKept g.wm g.last → IfOk (acted s column i g).outcome (IsLawfulOver g.wm g.last)
 
--- Each symbol keeps its spelling.
+-- Each symbol keeps its spelling. Of a session this holds from its start on: `back` takes those away that came later.
 abbrev pub KeepsNames : Spellings → Spellings → Type 0
 KeepsNames old new = (i : ℕ) (s : List ℕ) → slice_get old.held i ≡ Some s → slice_get new.held i ≡ Some s
 
@@ -65,6 +65,6 @@ abbrev pub IsLimited : Setting → ℕ → List Command → Spellings → Type 0
 IsLimited s limit commands names = (coming : Coming) → KeepsLimit limit (session_of s limit commands names coming).outcome
 
 -- A run with a number that finishes makes at most this many firings.
-abbrev pub IsCounted : ℕ → Setting → Course → Type 0
-IsCounted left s m =
-    (breaks : List Bool) (column n : ℕ) → IfOk (run_on left s breaks column None (Some n) m).outcome (λ k. k.firings ≤ m.firings + n)
+abbrev pub IsCounted : ℕ → Setting → Session → Type 0
+IsCounted left s k =
+    (column n : ℕ) → IfOk (run_on left s column None (Some n) k).outcome (λ after. after.course.firings ≤ k.course.firings + n)

@@ -194,6 +194,10 @@ no_more_line = codes "end -- no production true"
 abbrev pub counted_line : List ℕ
 counted_line = codes "break -- run count"
 
+-- fewer firings are kept than are to be undone: this many
+abbrev pub kept_line : ℕ → List ℕ
+kept_line n = codes "back -- " ++ decimal n ++ codes " firings kept"
+
 abbrev pub broken_line : Spellings → Sym → List ℕ
 broken_line names name = codes "break -- production " ++ symbol_text names name
 

@@ -1,6 +1,6 @@
 -- The recognise-act cycle and the session.
-use Rattle.std.specs.Prelude.{ℕ, zero, suc, ◌+◌, ◌-◌, List, [], ◌∷◌, ◌++◌, length, map, filter, find, position, fold, take, drop, slice_get, slice_set, if◌then◌else◌, Bool, true, false, not, ◌==◌, ◌&&◌, Option, Some, None, is_some, option_map, unwrap_or, Result, Ok, Err}
-use Rattle.std.specs.List.{list_all, filter_map, flat_map}
+use Rattle.std.specs.Prelude.{ℕ, zero, suc, ◌+◌, ◌-◌, List, [], ◌∷◌, ◌++◌, length, map, filter, find, position, fold, take, drop, nat_lt, slice_get, slice_set, if◌then◌else◌, Bool, true, false, not, ◌==◌, ◌&&◌, Option, Some, None, is_some, option_map, unwrap_or, Result, Ok, Err}
+use Rattle.std.specs.List.{list_all, list_any, filter_map, flat_map}
 use Rattle.ops_base.specs.declared.values.Sym.{Sym}
 use Rattle.ops_base.specs.declared.values.Value.{Value}
 use Rattle.ops_base.specs.declared.elements.Class.{Class}
@@ -24,15 +24,15 @@ use Rattle.ops_base.specs.Live.{without, moved_insts}
 use Rattle.ops_base.specs.Refraction.{unfired, still_fired, dominant, is_same_inst}
 use Rattle.ops_io.specs.Output.{column_after}
 use Rattle.ops_meaning.specs.Effects.{Effect, writes, ends_with, and_then, told_as, led_by}
-use Rattle.ops_meaning.specs.Layout.{line_at, lines_at, traced, firing_bytes, tagged_text, inst_text, rule_name, strategy_line, level_line, break_line, unknown_line, halted_line, no_more_line, counted_line, broken_line}
+use Rattle.ops_meaning.specs.Layout.{line_at, lines_at, traced, firing_bytes, tagged_text, inst_text, rule_name, strategy_line, level_line, break_line, unknown_line, halted_line, no_more_line, counted_line, broken_line, kept_line}
 use Rattle.ops_base.specs.Names.{Spellings}
 use Rattle.ops_io.specs.Coming.{Coming}
 use Rattle.ops_meaning.specs.Partials.{left_side, all_partial_lines}
 use Rattle.ops_meaning.specs.Acting.{Setting, Misdeed, Bad, NoInput, Given, Acted, acted, emptied, first_of, element_of, has_tag, change_lines}
 
 -- what a session has come to: working memory, the strategy, the instantiations that are marked as fired, how many
--- firings were made, the last tag that was given, the spellings in use with the number of the last fresh atom, and the
--- input that is still to come
+-- firings were made, the greatest tag that was given and not undone, the spellings in use with the number of the last
+-- fresh atom, and the input that is still to come
 pub record Course : Type 0 where
   pub wm : List Element
   pub strategy : Strategy
@@ -101,6 +101,57 @@ firing_by found s column i m =
     let line = firing_bytes s.watch column m.names s.rules (m.firings + 1) i in
     led_by line (told_as (turned_by found i m) (ended_in (m.firings + 1) i.rule (rule_name s.rules i.rule)) (acted s (column_after column line) i (given_by m)))
 
+-- ---- the trail
+
+-- what comes back where a firing is undone: working memory, the marks, the last tag and the names, as they were before it
+pub record Earlier : Type 0 where
+  pub wm : List Element
+  pub fired : List Inst
+  pub last : ℕ
+  pub names : Spellings
+
+-- this many firings can be undone at most
+abbrev pub most_kept : ℕ
+most_kept = 32
+
+-- what a firing from here on changes
+abbrev pub earlier : Course → Earlier
+earlier m = record { wm = m.wm; fired = m.fired; last = m.last; names = m.names }
+
+-- the same as it was, and all else as it is
+abbrev pub gone_back : Earlier → Course → Course
+gone_back e m = record m { wm = e.wm; fired = e.fired; last = e.last; names = e.names }
+
+-- the last of them, as many as are kept
+abbrev pub last_kept : List Earlier → List Earlier
+last_kept es = drop (length es - most_kept) es
+
+-- what a session has come to: its course, the productions in force, the trace level, whether each of these productions
+-- has a break, and the trail, which is what was before each of the last firings. Where no `back` stands among the
+-- commands there is no trail.
+pub record Session : Type 0 where
+  pub course : Course
+  pub rules : List Rule
+  pub watch : ℕ
+  pub breaks : List Bool
+  pub trail : Option (List Earlier)
+
+-- the setting, with the productions in force
+abbrev pub in_force : Setting → Session → Setting
+in_force s k = record s { rules = k.rules }
+
+-- the course goes on
+abbrev pub with_course : Session → Course → Session
+with_course k m = record k { course = m }
+
+-- no firing before this can be undone
+abbrev pub trail_emptied : Session → Session
+trail_emptied k = record k { trail = option_map (λ es. []) k.trail }
+
+-- A firing leaves this course. What was before it joins the trail, and of more than are kept the oldest is dropped.
+abbrev pub fired_on : Course → Session → Session
+fired_on m k = record k { course = m; trail = option_map (λ es. last_kept (es ++ earlier k.course ∷ [])) k.trail }
+
 -- ---- a run
 
 -- the last firing of a run: its production, and whether `halt` was done in it
@@ -127,10 +178,10 @@ line_of_pause names rules breaks (Some last) count =
     else line_of_count count
 
 -- A run ends with its line where it has one, and where nothing is left to fire; otherwise it goes on with what is next.
-abbrev pub turn : ℕ → Option (List ℕ) → Course → Option Inst → (Inst → Effect Ending Course) → Effect Ending Course
-turn column (Some line) m next go_on = writes (line_at column line) m
-turn column None m None go_on = writes (line_at column no_more_line) m
-turn column None m (Some i) go_on = go_on i
+abbrev pub turn : ℕ → Option (List ℕ) → Session → Option Inst → (Inst → Effect Ending Session) → Effect Ending Session
+turn column (Some line) k next go_on = writes (line_at column line) k
+turn column None k None go_on = writes (line_at column no_more_line) k
+turn column None k (Some i) go_on = go_on i
 
 -- one firing less is left to the run
 abbrev pub one_less : Option ℕ → Option ℕ
@@ -140,32 +191,16 @@ one_less count = option_map (λ n. n - 1) count
 abbrev pub last_of : Inst → Turned → Option LastFiring
 last_of i t = Some (record { rule = i.rule; halted = t.halted })
 
--- A run from here on, where this many firings are left to the session, these productions have a break, this was its
--- last firing, if it made one, and this many are left to it, if it has a number of them.
-abbrev pub run_by : Finder → ℕ → Setting → List Bool → ℕ → Option LastFiring → Option ℕ → Course → Effect Ending Course
-run_by found zero s breaks column last count m =
-    turn column (line_of_pause m.names s.rules breaks last count) m (next_by found s.rules m) (λ i. ends_with (ending.Limit m.firings))
-run_by found (suc left) s breaks column last count m =
-    turn column (line_of_pause m.names s.rules breaks last count) m (next_by found s.rules m)
-    (λ i. and_then column (firing_by found s column i m) (λ next t. run_by found left s breaks next (last_of i t) (one_less count) t.course))
+-- A run from here on, where this many firings are left to the session, this was its last firing, if it made one, and
+-- this many are left to it, if it has a number of them.
+abbrev pub run_by : Finder → ℕ → Setting → ℕ → Option LastFiring → Option ℕ → Session → Effect Ending Session
+run_by found zero s column last count k =
+    turn column (line_of_pause k.course.names s.rules k.breaks last count) k (next_by found s.rules k.course) (λ i. ends_with (ending.Limit k.course.firings))
+run_by found (suc left) s column last count k =
+    turn column (line_of_pause k.course.names s.rules k.breaks last count) k (next_by found s.rules k.course)
+    (λ i. and_then column (firing_by found s column i k.course) (λ next t. run_by found left s next (last_of i t) (one_less count) (fired_on t.course k)))
 
 -- ---- commands
-
--- what a session has come to: its course, the productions in force, the trace level, and whether each of these
--- productions has a break
-pub record Session : Type 0 where
-  pub course : Course
-  pub rules : List Rule
-  pub watch : ℕ
-  pub breaks : List Bool
-
--- the setting, with the productions in force
-abbrev pub in_force : Setting → Session → Setting
-in_force s k = record s { rules = k.rules }
-
--- the course goes on
-abbrev pub with_course : Session → Course → Session
-with_course k m = record k { course = m }
 
 -- lines are written, and nothing else is done
 abbrev pub lists : ℕ → List (List ℕ) → Session → Effect Ending Session
@@ -281,9 +316,9 @@ breaks_given s column (n ∷ ns) k =
 
 -- ---- productions that come and go
 
--- The production of this number is taken out, with its break and its marks. The others keep theirs.
+-- The production of this number is taken out, with its break and its marks. The others keep theirs. The trail is emptied.
 abbrev pub taken_out : ℕ → Session → Session
-taken_out n k = record k {
+taken_out n k = record (trail_emptied k) {
   rules = without n k.rules;
   breaks = without n k.breaks;
   course = record k.course { fired = moved_insts n k.course.fired };
@@ -293,9 +328,9 @@ taken_out n k = record k {
 abbrev pub taken_out_named : Sym → Session → Session
 taken_out_named name k = unwrap_or (option_map (λ n. taken_out n k) (rule_named k.rules name)) k
 
--- A production stands last, without a break and without marks. One of its name is taken out first.
+-- A production stands last, without a break and without marks. One of its name is taken out first. The trail is emptied.
 abbrev pub added : Rule → Session → Session
-added r k = let left = taken_out_named r.name k in record left { rules = left.rules ++ r ∷ []; breaks = left.breaks ++ false ∷ [] }
+added r k = let left = taken_out_named r.name k in record (trail_emptied left) { rules = left.rules ++ r ∷ []; breaks = left.breaks ++ false ∷ [] }
 
 -- these without the production of this name, where there is one
 abbrev pub without_named : List Rule → Sym → List Rule
@@ -307,7 +342,8 @@ left_unknown rules [] = []
 left_unknown rules (name ∷ names) =
     if is_some (rule_named rules name) then left_unknown (without_named rules name) names else name ∷ left_unknown rules names
 
--- The productions of these names are taken out, one after the other, and a name of none is told.
+-- The productions of these names are taken out, one after the other, and a name of none is told. Where none is taken
+-- out the trail stays.
 abbrev pub excised : ℕ → List Sym → Session → Effect Ending Session
 excised column names k =
     writes (lines_at column (map (unknown_line k.course.names) (left_unknown k.rules names))) (fold (λ k name. taken_out_named name k) k names)
@@ -316,17 +352,41 @@ excised column names k =
 
 -- A run, in a session that makes at most this many firings.
 abbrev pub run_given : Finder → Setting → ℕ → ℕ → Option ℕ → Session → Effect Ending Session
-run_given found s limit column count k =
-    told_as (with_course k) (λ e. e)
-    (run_by found (limit - k.course.firings) (record s { watch = k.watch }) k.breaks column None count k.course)
+run_given found s limit column count k = run_by found (limit - k.course.firings) (record s { watch = k.watch }) column None count k
+
+-- ---- back
+
+-- the states of the trail, the oldest first
+abbrev pub states_kept : Session → List Earlier
+states_kept k = unwrap_or k.trail []
+
+-- This state, which has this number on the trail, comes back, and the trail ends before it. All that it does not have
+-- stays: the strategy, the number of firings, the input, the productions in force, the trace level and the breaks.
+abbrev pub restored : ℕ → Session → Earlier → Session
+restored n k e = record k { course = gone_back e k.course; trail = option_map (take n) k.trail }
+
+-- the state with this number on the trail comes back, where there is one
+abbrev pub gone_back_to : ℕ → Session → Session
+gone_back_to n k = unwrap_or (option_map (restored n k) (slice_get (states_kept k) n)) k
+
+-- The last firings, this many, are undone. Where fewer are kept, none is, and it is told how many are.
+abbrev pub back_given : ℕ → ℕ → Session → Effect Ending Session
+back_given column count k =
+    let kept = length (states_kept k) in
+    if nat_lt kept count then lists column (kept_line kept ∷ []) k else writes [] (gone_back_to (kept - count) k)
+
+-- ---- one command
 
 -- What one command does from a column on, in a session that makes at most this many firings, where the productions of
--- the setting are in force. A top-level `make` is one phase, and so is a `remove`.
+-- the setting are in force. A top-level `make` is one phase, and so is a `remove`. Each of them empties the trail, also
+-- a `remove` of tags that no element has.
 abbrev pub command_by : Finder → Setting → ℕ → ℕ → Command → Session → Effect Ending Session
 command_by found s limit column (command.Make class puts) k =
-    phase_told found s column (change.Add (element_made s.classes class puts k.course) ∷ []) (k.course.last + 1) k
-command_by found s limit column (command.Remove tags) k = phase_told found s column (removals k.course.wm tags) k.course.last k
-command_by found s limit column command.RemoveAll k = phase_told found s column (map change.Remove (tags_of k.course.wm)) k.course.last k
+    phase_told found s column (change.Add (element_made s.classes class puts k.course) ∷ []) (k.course.last + 1) (trail_emptied k)
+command_by found s limit column (command.Remove tags) k =
+    phase_told found s column (removals k.course.wm tags) k.course.last (trail_emptied k)
+command_by found s limit column command.RemoveAll k =
+    phase_told found s column (map change.Remove (tags_of k.course.wm)) k.course.last (trail_emptied k)
 command_by found s limit column (command.Run count) k = run_given found s limit column count k
 command_by found s limit column (command.Wm tags) k =
     lists column (element_lines k.course.names s.classes (elements_listed k.course.wm tags)) k
@@ -340,7 +400,7 @@ command_by found s limit column (command.Watch set) k = level_given column set k
 command_by found s limit column (command.Pbreak names) k = breaks_given s column names k
 command_by found s limit column (command.Add r) k = writes [] (added r k)
 command_by found s limit column (command.Excise names) k = excised column names k
-command_by found s limit column (command.Back count) k = writes [] k
+command_by found s limit column (command.Back count) k = back_given column count k
 command_by found s limit column (command.Matches names) k =
     lists column (flat_map (matches_told k.course.names s.rules k.course.wm) names) k
 command_by found s limit column command.Exit k = writes [] k
@@ -349,6 +409,10 @@ command_by found s limit column command.Exit k = writes [] k
 abbrev pub is_exit : Command → Bool
 is_exit command.Exit = true
 is_exit _ = false
+
+abbrev pub is_back : Command → Bool
+is_back (command.Back count) = true
+is_back _ = false
 
 -- the commands in their order, up to the first `exit`
 abbrev pub commands_by : Find → Setting → ℕ → ℕ → List Command → Session → Effect Ending Session
@@ -363,14 +427,25 @@ abbrev pub ending_of : Result Session Ending → Ending
 ending_of (Ok k) = ending.Done k.course.firings (length k.course.wm) k.course.last
 ending_of (Err e) = e
 
--- nothing was done yet: these productions are in force, with no trace, and no break
-abbrev pub begun : List Rule → Spellings → Coming → Session
-begun rules names coming = record { course = nothing_yet names coming; rules = rules; watch = 0; breaks = map (λ r. false) rules }
+-- no firing was made yet, where this tells whether any is kept
+abbrev pub trail_begun : Bool → Option (List Earlier)
+trail_begun keeps = if keeps then Some [] else None
+
+-- Nothing was done yet: these productions are in force, with no trace, and no break. There is a trail where a `back`
+-- stands among these commands.
+abbrev pub begun : List Command → List Rule → Spellings → Coming → Session
+begun commands rules names coming = record {
+  course = nothing_yet names coming;
+  rules = rules;
+  watch = 0;
+  breaks = map (λ r. false) rules;
+  trail = trail_begun (list_any is_back commands);
+}
 
 -- the whole session, from column 0 and nothing, where the productions of the setting are in force at first, it makes at
 -- most this many firings, these names are in use and this input is to come
 abbrev pub session_by : Find → Setting → ℕ → List Command → Spellings → Coming → Effect Ending Session
-session_by find s limit commands names coming = commands_by find s limit 0 commands (begun s.rules names coming)
+session_by find s limit commands names coming = commands_by find s limit 0 commands (begun commands s.rules names coming)
 
 -- ---- the same, by the conflict set of the productions in force
 
@@ -383,8 +458,8 @@ turned_of rules i m a = turned_by (conflict_set rules) i m a
 abbrev pub firing : Setting → ℕ → Inst → Course → Effect Ending Turned
 firing s column i m = firing_by (conflict_set s.rules) s column i m
 
-abbrev pub run_on : ℕ → Setting → List Bool → ℕ → Option LastFiring → Option ℕ → Course → Effect Ending Course
-run_on left s breaks column last count m = run_by (conflict_set s.rules) left s breaks column last count m
+abbrev pub run_on : ℕ → Setting → ℕ → Option LastFiring → Option ℕ → Session → Effect Ending Session
+run_on left s column last count k = run_by (conflict_set s.rules) left s column last count k
 
 abbrev pub phase_done : Setting → ℕ → List Change → ℕ → Session → Effect Ending Session
 phase_done s column changes last k = phase_told (conflict_set s.rules) s column changes last k

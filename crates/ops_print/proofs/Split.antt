@@ -22,6 +22,10 @@ tab_further n column h = grind (arith, common_steps)
 pub limit_pieces : (fresh firings : List ℕ) → fresh ++ ((codes "ops: limit of " ++ firings ++ codes " firings reached") ++ 10 ∷ []) ≡ fresh ++ (codes "ops: limit of " ++ firings ++ codes " firings reached\n")
 limit_pieces fresh firings = simp append_assoc
 
+-- the pieces of the line of the firings that are kept
+pub kept_pieces : (fresh kept : List ℕ) → fresh ++ ((codes "back -- " ++ kept ++ codes " firings kept") ++ 10 ∷ []) ≡ fresh ++ (codes "back -- " ++ kept ++ codes " firings kept\n")
+kept_pieces fresh kept = simp append_assoc
+
 -- texts one after another, as they are put
 nine : (fresh a b c d e f g h end : List ℕ) → fresh ++ ((a ++ b ++ c ++ d ++ e ++ f ++ g ++ h) ++ end) ≡ fresh ++ ((a ++ b ++ c) ++ (d ++ ((e ++ f ++ g) ++ (h ++ end))))
 nine fresh a b c d e f g h end = simp append_assoc

@@ -14,7 +14,7 @@ mod values;
 pub use elements::{put_element, put_element_line, put_made_line, put_removed_line};
 pub use endings::put_fault;
 pub use instances::{put_firing, put_inst, put_inst_line, put_partial_line, rule_name};
-pub use lines::{fresh_line, put_line, put_name_line, put_number_line};
+pub use lines::{fresh_line, put_kept_line, put_line, put_name_line, put_number_line};
 pub use pieces::put_spaces;
 pub use symbols::put_symbol;
 pub use values::{Lead, put_lead, put_tab, put_value, value_length};

@@ -1,7 +1,7 @@
 //! Lines of their own.
 ghost use Rattle.std.specs.Prelude.{◌≡◌, ◌^◌, ◌<◌, ◌++◌, IsTrue, OnErr, false, decimal};
 ghost use Rattle.ops_io.specs.Ports.{port, PutsBytes};
-ghost use Rattle.ops_meaning.specs.Layout.{fresh_line, line_at, symbol_text};
+ghost use Rattle.ops_meaning.specs.Layout.{fresh_line, kept_line, line_at, symbol_text};
 
 use crate::pieces::{put_numbered, put_three};
 use crate::symbols::put_named;
@@ -73,4 +73,16 @@ pub fn put_number_line<K: Sink>(
 {
     fresh_line(out, sink)?;
     put_numbered(out, sink, before, number, b"\n")
+}
+
+/// Puts the line that tells how many firings are kept, where fewer are than are to be undone.
+pub fn put_kept_line<K: Sink>(out: &mut Out, sink: &mut K, kept: u64) -> Result<(), WriteFailed>
+    requires whole { IsTrue out.old.whole }
+    requires faults { K.faults sink.old < 2 ^ 63 }
+    ensures puts { PutsBytes result (port (K.taken sink.old) (K.faults sink.old) out.old)
+        (port (K.taken sink.new) (K.faults sink.new) out.new) (line_at out.old.column (kept_line kept)) }
+    ensures broken { OnErr result (out.new.whole ≡ false) }
+{
+    fresh_line(out, sink)?;
+    put_numbered(out, sink, b"back -- ", kept, b" firings kept\n")
 }

@@ -43,7 +43,7 @@ items = (refl, refl, refl)
 
 pub commands : CommandsMean
 unfolding reads token_at is_operator is_whole is_fraction is_variable decimal step ends goes
-commands = (refl, refl, refl, refl, refl, refl, refl, refl, refl, refl, refl, refl, refl, refl, refl, refl, refl, refl, refl, refl, refl, refl, refl)
+commands = (refl, refl, refl, refl, refl, refl, refl, refl, refl, refl, refl, refl, refl, refl, refl, refl, refl, refl, refl, refl, refl, refl, refl, refl, refl, refl)
 
 pub options : OptionsMean
 unfolding pieces_from
@@ -71,4 +71,4 @@ functions_fail = (refl, refl, refl, refl, refl, refl, refl, refl, refl, refl)
 
 pub commands_fail : CommandsFail
 unfolding reads token_at is_operator is_whole is_fraction is_variable decimal step ends goes
-commands_fail = (refl, refl, refl, refl, refl, refl, refl, refl, refl, refl, refl, refl, refl, refl, refl, refl, refl, refl, refl, refl, refl, refl, refl)
+commands_fail = (refl, refl, refl, refl, refl, refl, refl, refl, refl, refl, refl, refl, refl, refl, refl, refl, refl, refl, refl, refl, refl, refl, refl, refl, refl, refl, refl, refl)

@@ -55,4 +55,7 @@ CommandsMean =
     × Does (codes "(pbreak r)") (command.Pbreak (name ∷ []))
     × Does (codes "(excise r)") (command.Excise (name ∷ []))
     × Does (codes "(matches r)") (command.Matches (name ∷ []))
+    × Does (codes "(back)") (command.Back 1)
+    × Does (codes "(back 1)") (command.Back 1)
+    × Does (codes "(back 32)") (command.Back 32)
     × (commands_of (codes "(run)(p s(a)-->)") ≡ command.Run None ∷ command.Add later ∷ [])

@@ -179,3 +179,8 @@ CommandsFail =
     × Stands (codes "(matches r 1)") fault.BadForm 1 12
     × Stands (codes "(matches <r>)") fault.BadForm 1 10
     × Stands (codes "(matches r") fault.Unclosed 1 11
+    × Stands (codes "(back 0)") fault.BadForm 1 7
+    × Stands (codes "(back 33)") fault.BadForm 1 7
+    × Stands (codes "(back x)") fault.BadForm 1 7
+    × Stands (codes "(back 1 2)") fault.BadForm 1 9
+    × Stands (codes "(back") fault.Unclosed 1 6

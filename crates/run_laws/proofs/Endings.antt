@@ -7,7 +7,7 @@ use Rattle.ops_base.specs.Names.{Spellings}
 use Rattle.ops_io.specs.Coming.{Coming}
 use Rattle.ops_meaning.specs.Acting.{Setting}
 use Rattle.ops_meaning.specs.Running.{Session, session_of, ending_of}
-use Rattle.ops_meaning.proofs.RisingTags.{KeptCourse, EndsSession, session_goes_on}
+use Rattle.ops_meaning.proofs.RisingTags.{KeptSession, EndsSession, session_goes_on}
 use Rattle.run_laws.specs.Ending.{IsOfSession}
 
 ends_so : (fails : Bool) (e : Ending) → EndsSession fails e → IsOfSession fails e
@@ -24,4 +24,4 @@ ended_so kept fails (Err e) p = ends_so fails e p
 
 pub only_input_fails : (s : Setting) (limit : ℕ) (commands : List Command) (names : Spellings) (coming : Coming) → IsOfSession coming.fails (ending_of (session_of s limit commands names coming).outcome)
 only_input_fails s limit commands names coming =
-    ended_so (λ (k : Session). KeptCourse names coming.fails k.course) coming.fails (session_of s limit commands names coming).outcome (session_goes_on s limit commands names coming)
+    ended_so (KeptSession names coming.fails) coming.fails (session_of s limit commands names coming).outcome (session_goes_on s limit commands names coming)

@@ -20,12 +20,13 @@ use Rattle.ops_io.specs.Output.{column_after}
 use Rattle.ops_meaning.specs.Acting.{Setting}
 use Rattle.ops_meaning.specs.Effects.{Effect, writes, and_then}
 use Rattle.ops_meaning.specs.Layout.{lines_at, unknown_line}
-use Rattle.ops_meaning.specs.Running.{Session, added, begun, breaks_given, command_done, commands_done, in_force, is_exit, left_unknown, level_given, rule_named, run_on, session_of, strategy_given, taken_out, taken_out_named, with_course, without_named}
-use Rattle.run_laws.specs.Excising.{AreNamedApart, has_name, is_given, is_named, left_beside, left_by, left_inst, left_number, names_told}
+use Rattle.ops_meaning.specs.Running.{Session, added, begun, breaks_given, command_done, commands_done, in_force, is_exit, left_unknown, level_given, rule_named, run_on, session_of, strategy_given, taken_out, taken_out_named, without_named, Earlier, LastFiring, Turned, back_given, fired_on, firing, last_of, line_of_pause, next_to_fire, one_less, trail_emptied, turn}
+use Rattle.ops_meaning.proofs.Trails.{back_leaves}
+use Rattle.run_laws.specs.Excising.{AreNamedApart, has_name, is_given, is_named, left_beside, left_by, left_inst, left_number, names_told, trail_left}
 use Rattle.run_laws.specs.Programs.{AreValid}
 use Rattle.run_laws.specs.Standing.{ranking_in}
 use Rattle.run_laws.proofs.Orders.{taken_order}
-use Rattle.run_laws.proofs.Parts.{ok_as, ok_on}
+use Rattle.run_laws.proofs.Parts.{if_ok, ok_on}
 
 -- ---- the first that passes
 
@@ -168,21 +169,26 @@ module _ (p : Rule → Bool) where
       ∙ ap (cons_option (left_inst p rules i)) (same_marks a rules h insts)
 
   -- the parts of what is left
-  same_parts : (k : Session) (rules : List Rule) (breaks : List Bool) (fired : List Inst) → rules ≡ filter (λ r. not (p r)) k.rules → breaks ≡ left_beside p k.rules k.breaks → fired ≡ filter_map (left_inst p k.rules) k.course.fired
-      → record k { rules = rules; breaks = breaks; course = record k.course { fired = fired } } ≡ left_by p k
-  same_parts k rules breaks fired e f g =
-      ap (λ rs. record k { rules = rs; breaks = breaks; course = record k.course { fired = fired } }) e
-      ∙ ap (λ bs. record k { rules = filter (λ r. not (p r)) k.rules; breaks = bs; course = record k.course { fired = fired } }) f
-      ∙ ap (λ is. record k { rules = filter (λ r. not (p r)) k.rules; breaks = left_beside p k.rules k.breaks; course = record k.course { fired = is } }) g
+  same_parts : (k : Session) (rules : List Rule) (breaks : List Bool) (fired : List Inst) (trail : Option (List Earlier)) → rules ≡ filter (λ r. not (p r)) k.rules → breaks ≡ left_beside p k.rules k.breaks → fired ≡ filter_map (left_inst p k.rules) k.course.fired
+      → trail ≡ trail_left p k.rules k.trail
+      → record k { rules = rules; breaks = breaks; course = record k.course { fired = fired }; trail = trail } ≡ left_by p k
+  same_parts k rules breaks fired trail e f g h =
+      ap (λ rs. record k { rules = rs; breaks = breaks; course = record k.course { fired = fired }; trail = trail }) e
+      ∙ ap (λ bs. record k { rules = filter (λ r. not (p r)) k.rules; breaks = bs; course = record k.course { fired = fired }; trail = trail }) f
+      ∙ ap (λ is. record k { rules = filter (λ r. not (p r)) k.rules; breaks = left_beside p k.rules k.breaks; course = record k.course { fired = is }; trail = trail }) g
+      ∙ ap (λ t. record k { rules = filter (λ r. not (p r)) k.rules; breaks = left_beside p k.rules k.breaks; course = record k.course { fired = filter_map (left_inst p k.rules) k.course.fired }; trail = t }) h
 
   none_left_by : (k : Session) → Stay k.rules → k ≡ left_by p k
   none_left_by k h =
-      same_parts k k.rules k.breaks k.course.fired (sym (all_stay k.rules h)) (sym (beside_stays k.rules k.breaks h)) (sym (marks_stay k.rules k.course.fired h))
+      same_parts k k.rules k.breaks k.course.fired k.trail (sym (all_stay k.rules h)) (sym (beside_stays k.rules k.breaks h)) (sym (marks_stay k.rules k.course.fired h))
+      (sym (ap (λ b. cond b (trail_emptied k).trail k.trail) h))
 
   one_left_by : (k : Session) (a : ℕ) → Once k.rules → position p k.rules ≡ Some a → taken_out a k ≡ left_by p k
   one_left_by k a once e =
       let goes = one_goes k.rules a once e in
-      same_parts k (without a k.rules) (without a k.breaks) (moved_insts a k.course.fired) goes.0 (goes.1 k.breaks) (same_marks a k.rules goes.2 k.course.fired)
+      let there : list_any p k.rules ≡ true = sym (position_some p k.rules) ∙ ap is_some e in
+      same_parts k (without a k.rules) (without a k.breaks) (moved_insts a k.course.fired) (trail_emptied k).trail goes.0 (goes.1 k.breaks) (same_marks a k.rules goes.2 k.course.fired)
+      (sym (ap (λ b. cond b (trail_emptied k).trail k.trail) there))
 
   left_by_place : (k : Session) → Once k.rules → unwrap_or (option_map (λ n. taken_out n k) (position p k.rules)) k ≡ left_by p k
   left_by_place k once = by (position p k.rules) refl
@@ -270,6 +276,10 @@ module _ (p : Rule → Bool) where
 
 -- ---- these go first, and then those
 
+or_true : (b : Bool) → (b || true) ≡ true
+or_true true = refl
+or_true false = refl
+
 module _ (p q t : Rule → Bool) (both : (r : Rule) → t r ≡ (p r || q r)) where
   abbrev first_left : List Rule → List Rule
   first_left rules = filter (λ r. not (p r)) rules
@@ -346,9 +356,33 @@ module _ (p q t : Rule → Bool) (both : (r : Rule) → t r ≡ (p r || q r)) wh
           at None = refl
           at (Some m) = refl
 
+  -- one of either goes
+  then_any : (rules : List Rule) → list_any t rules ≡ (list_any p rules || list_any q (first_left rules))
+  then_any [] = refl
+  then_any (r ∷ rules) = by (p r) refl (q r) refl (then_any rules)
+    where
+      by : (a : Bool) → p r ≡ a → (b : Bool) → q r ≡ b → list_any t rules ≡ (list_any p rules || list_any q (first_left rules))
+          → list_any t (r ∷ rules) ≡ (list_any p (r ∷ rules) || list_any q (first_left (r ∷ rules)))
+      by true e b f rest = rw (e, both_gone r e) refl
+      by false e true f rest = rw (e, f, both_as r true e f) (sym (or_true (list_any p rules)))
+      by false e false f rest = rw (e, f, both_as r false e f) rest
+
+  then_trail : (rules : List Rule) (trail : Option (List Earlier)) → trail_left q (first_left rules) (trail_left p rules trail) ≡ trail_left t rules trail
+  then_trail rules trail =
+      by (list_any p rules) (list_any q (first_left rules)) trail
+      ∙ sym (ap (λ b. cond b (option_map (λ es. []) trail) trail) (then_any rules))
+    where
+      by : (a b : Bool) (trail : Option (List Earlier))
+          → cond b (option_map (λ es. []) (cond a (option_map (λ es. []) trail) trail)) (cond a (option_map (λ es. []) trail) trail) ≡ cond (a || b) (option_map (λ es. []) trail) trail
+      by true true None = refl
+      by true true (Some es) = refl
+      by true false trail = refl
+      by false true trail = refl
+      by false false trail = refl
+
   then_left : (k : Session) → left_by q (left_by p k) ≡ left_by t k
   then_left k =
-      same_parts t k _ _ _ (then_rules k.rules) (then_beside k.rules k.breaks) (then_marks k.rules k.course.fired)
+      same_parts t k _ _ _ _ (then_rules k.rules) (then_beside k.rules k.breaks) (then_marks k.rules k.course.fired) (then_trail k.rules k.trail)
 
 -- ---- names
 
@@ -582,13 +616,28 @@ breaks_apart : (s : Setting) (column : ℕ) (names : List Sym) (k : Session) →
 breaks_apart s column [] k h = h
 breaks_apart s column (n ∷ ns) k h = h
 
+turn_apart : (column : ℕ) (line : Option (List ℕ)) (k : Session) (next : Option Inst) (go_on : Inst → Effect Ending Session) → Apart k
+    → ((i : Inst) → IfOk (go_on i).outcome Apart) → IfOk (turn column line k next go_on).outcome Apart
+turn_apart column (Some line) k next go_on p q = p
+turn_apart column None k None go_on p q = p
+turn_apart column None k (Some i) go_on p q = q i
+
+run_apart : (left : ℕ) (s : Setting) (column : ℕ) (last : Option LastFiring) (count : Option ℕ) (k : Session) → Apart k
+    → IfOk (run_on left s column last count k).outcome Apart
+run_apart zero s column last count k h =
+    turn_apart column (line_of_pause k.course.names s.rules k.breaks last count) k (next_to_fire s.rules k.course) _ h (λ i. tt)
+run_apart (suc left) s column last count k h =
+    turn_apart column (line_of_pause k.course.names s.rules k.breaks last count) k (next_to_fire s.rules k.course) _ h
+    (λ i. let e = firing s column i k.course in
+    ok_on (λ (t : Turned). Unit {0}) Apart e.bytes e.outcome (λ t. run_on left s (column_after column e.bytes) (last_of i t) (one_less count) (fired_on t.course k)) (any_ok e.outcome)
+    (λ t q. run_apart left s (column_after column e.bytes) (last_of i t) (one_less count) (fired_on t.course k) h))
+
 command_apart : (s : Setting) (limit column : ℕ) (c : Command) (k : Session) → Apart k → IfOk (command_done s limit column c k).outcome Apart
 command_apart s limit column (command.Make class puts) k h = h
 command_apart s limit column (command.Remove tags) k h = h
 command_apart s limit column command.RemoveAll k h = h
 command_apart s limit column (command.Run count) k h =
-    let o = (run_on (limit - k.course.firings) (record s { watch = k.watch }) k.breaks column None count k.course).outcome in
-    ok_as (λ m. Unit {0}) Apart (with_course k) (λ e. e) o (any_ok o) (λ m q. h)
+    run_apart (limit - k.course.firings) (record s { watch = k.watch }) column None count k h
 command_apart s limit column (command.Wm tags) k h = h
 command_apart s limit column (command.Ppwm pattern) k h = h
 command_apart s limit column command.Cs k h = h
@@ -598,7 +647,8 @@ command_apart s limit column (command.Watch set) k h = level_apart column set k 
 command_apart s limit column (command.Pbreak names) k h = breaks_apart s column names k h
 command_apart s limit column (command.Add r) k h = added_apart r k h
 command_apart s limit column (command.Excise given) k h = all_apart given k h
-command_apart s limit column (command.Back count) k h = h
+command_apart s limit column (command.Back count) k h =
+    if_ok Apart (λ (e : Ending). Unit {0}) (back_given column count k).outcome (back_leaves Apart (λ e. Unit {0}) column count k h (λ n e is. h))
 command_apart s limit column (command.Matches given) k h = h
 command_apart s limit column command.Exit k h = h
 
@@ -614,7 +664,7 @@ commands_apart s limit column (c ∷ rest) k h =
 pub session_apart : (s : Setting) (limit : ℕ) (before after : List Command) (names : Spellings) (coming : Coming) → AreValid s (before ++ after)
     → IfOk (session_of s limit before names coming).outcome (λ k. AreNamedApart k.rules)
 session_apart s limit before after names coming h =
-    commands_apart s limit 0 before (begun s.rules names coming) (and_parts _ _ h.1).1
+    commands_apart s limit 0 before (begun before s.rules names coming) (and_parts _ _ h.1).1
 
 -- ---- the order in which they stand
 

@@ -11,6 +11,7 @@ pub mod Places
 pub mod Removed
 pub mod Wholes
 pub mod Sessions
+pub mod Untrailed
 pub mod Seen
 pub mod Ordered
 pub mod Computed
@@ -19,3 +20,4 @@ pub mod Told
 pub mod Orders
 pub mod Marks
 pub mod Excisions
+pub mod Undoings

@@ -1,5 +1,7 @@
 -- Each mark of a session is of a production in force.
-use Rattle.std.proofs.Common.{◌≡◌, ℕ, zero, suc, ◌+◌, ◌-◌, ◌<◌, List, [], ◌∷◌, ◌++◌, length, fold, Bool, Option, Some, None, option_map, unwrap_or, Result, Ok, Err, IfOk, ap, inl, inr, ◌⊎◌, arith}
+use Rattle.std.proofs.Common.{◌≡◌, ℕ, zero, suc, ◌+◌, ◌-◌, ◌<◌, List, [], ◌∷◌, ◌++◌, length, fold, Option, Some, None, option_map, unwrap_or, Result, Ok, Err, IfOk, refl, sym, subst, false, slice_get, ap, inl, inr, ◌⊎◌, arith}
+use Rattle.std.specs.List.{list_any}
+use Rattle.ops_base.specs.Live.{without, moved_insts}
 use Rattle.std.proofs.lemmas.Bool.{cond_both}
 use Rattle.std.proofs.lemmas.List.Elements.{All-nil}
 use Rattle.ops_base.specs.declared.commands.Command.{Command}
@@ -22,9 +24,10 @@ use Rattle.ops_io.specs.Output.{column_after}
 use Rattle.ops_meaning.specs.Acting.{Setting, acted}
 use Rattle.ops_meaning.specs.Effects.{Effect, and_then, writes}
 use Rattle.ops_meaning.specs.Layout.{firing_bytes, rule_name}
-use Rattle.ops_meaning.specs.Running.{Course, LastFiring, Session, Turned, added, begun, breaks_given, command_done, commands_done, ended_in, firing, given_by, in_force, is_exit, last_of, level_given, line_of_pause, next_to_fire, one_less, rule_named, run_on, session_of, strategy_given, taken_out, taken_out_named, turn, turned_of, with_course}
+use Rattle.ops_meaning.specs.Running.{Course, LastFiring, Session, Turned, added, begun, breaks_given, command_done, commands_done, ended_in, firing, given_by, in_force, is_exit, last_of, level_given, line_of_pause, next_to_fire, one_less, rule_named, run_on, session_of, strategy_given, taken_out, taken_out_named, turn, turned_of, Earlier, back_given, fired_on, is_back, restored, states_kept, trail_emptied}
+use Rattle.ops_meaning.proofs.Trails.{AreKept, back_leaves, firing_kept_too, is_kept, none_kept, none_yet, those_before}
 use Rattle.run_laws.proofs.Orders.{marks_left}
-use Rattle.run_laws.proofs.Parts.{ok_as, ok_on}
+use Rattle.run_laws.proofs.Parts.{if_ok, ok_as, ok_more, ok_on}
 
 -- ---- a conflict set is of the productions
 
@@ -64,33 +67,49 @@ firing_marked s column i m =
     (any_ok (acted s behind i (given_by m)).outcome)
     (λ a q. marks_kept s.rules (turned_of s.rules i m a).course.wm (m.fired ++ i ∷ []))
 
-turn_marked : (rules : List Rule) (column : ℕ) (line : Option (List ℕ)) (m : Course) (next : Option Inst) (go_on : Inst → Effect Ending Course) → Marked rules m
-    → ((i : Inst) → IfOk (go_on i).outcome (Marked rules)) → IfOk (turn column line m next go_on).outcome (Marked rules)
-turn_marked rules column (Some line) m next go_on p q = p
-turn_marked rules column None m None go_on p q = p
-turn_marked rules column None m (Some i) go_on p q = q i
-
-run_marked : (left : ℕ) (s : Setting) (breaks : List Bool) (column : ℕ) (last : Option LastFiring) (count : Option ℕ) (m : Course) → Marked s.rules m
-    → IfOk (run_on left s breaks column last count m).outcome (Marked s.rules)
-run_marked zero s breaks column last count m p =
-    turn_marked s.rules column (line_of_pause m.names s.rules breaks last count) m (next_to_fire s.rules m) _ p (λ i. tt)
-run_marked (suc left) s breaks column last count m p =
-    turn_marked s.rules column (line_of_pause m.names s.rules breaks last count) m (next_to_fire s.rules m) _ p
-    (λ i. let e = firing s column i m in
-    ok_on (λ (t : Turned). Marked s.rules t.course) (Marked s.rules) e.bytes e.outcome (λ t. run_on left s breaks (column_after column e.bytes) (last_of i t) (one_less count) t.course) (firing_marked s column i m)
-    (λ t q. run_marked left s breaks (column_after column e.bytes) (last_of i t) (one_less count) t.course q))
+turn_marked : (P : Session → Type 0) (column : ℕ) (line : Option (List ℕ)) (k : Session) (next : Option Inst) (go_on : Inst → Effect Ending Session) → P k
+    → ((i : Inst) → IfOk (go_on i).outcome P) → IfOk (turn column line k next go_on).outcome P
+turn_marked P column (Some line) k next go_on p q = p
+turn_marked P column None k None go_on p q = p
+turn_marked P column None k (Some i) go_on p q = q i
 
 -- ---- a session
 
+-- the marks are of productions in force, and so are those of each state on the trail
+abbrev MarkedEarlier : List Rule → Earlier → Type 0
+MarkedEarlier rules e = AreOf rules e.fired
+
 abbrev Good : Session → Type 0
-Good k = Marked k.rules k.course
+Good k = Marked k.rules k.course × AreKept (MarkedEarlier k.rules) k
+
+-- a firing of a session whose productions in force are these
+fired_good : (rules : List Rule) (m : Course) (k : Session) → k.rules ≡ rules → Good k → Marked rules m → Good (fired_on m k)
+fired_good rules m k same g h =
+    let P : List Rule → Type 0 = λ rs. Marked rs m in
+    (subst P (sym same) h, firing_kept_too (MarkedEarlier k.rules) m k g.0 g.1)
+
+run_good : (left : ℕ) (s : Setting) (column : ℕ) (last : Option LastFiring) (count : Option ℕ) (k : Session) → k.rules ≡ s.rules → Good k
+    → IfOk (run_on left s column last count k).outcome Good
+run_good zero s column last count k same g =
+    turn_marked Good column (line_of_pause k.course.names s.rules k.breaks last count) k (next_to_fire s.rules k.course) _ g (λ i. tt)
+run_good (suc left) s column last count k same g =
+    turn_marked Good column (line_of_pause k.course.names s.rules k.breaks last count) k (next_to_fire s.rules k.course) _ g
+    (λ i. let e = firing s column i k.course in
+    ok_on (λ (t : Turned). Marked s.rules t.course) Good e.bytes e.outcome (λ t. run_on left s (column_after column e.bytes) (last_of i t) (one_less count) (fired_on t.course k)) (firing_marked s column i k.course)
+    (λ t q. run_good left s (column_after column e.bytes) (last_of i t) (one_less count) (fired_on t.course k) same (fired_good s.rules t.course k same g q)))
+
+back_good : (n : ℕ) (e : Earlier) (k : Session) → Good k → slice_get (states_kept k) n ≡ Some e → Good (restored n k e)
+back_good n e k g is = (is_kept (MarkedEarlier k.rules) k n e g.1 is, those_before (MarkedEarlier k.rules) n k e g.1)
+
+emptied_good : (k : Session) → Marked k.rules k.course → Good (trail_emptied k)
+emptied_good k h = (h, none_kept (MarkedEarlier k.rules) k)
 
 named_good : (name : Sym) (k : Session) → Good k → Good (taken_out_named name k)
 named_good name k h = by (rule_named k.rules name)
   where
     by : (at : Option ℕ) → Good (unwrap_or (option_map (λ n. taken_out n k) at) k)
     by None = h
-    by (Some n) = marks_left n k.rules k.course.fired h
+    by (Some n) = emptied_good (record k { rules = without n k.rules; breaks = without n k.breaks; course = record k.course { fired = moved_insts n k.course.fired } }) (marks_left n k.rules k.course.fired h.0)
 
 all_good : (given : List Sym) (k : Session) → Good k → Good (fold (λ k name. taken_out_named name k) k given)
 all_good [] k h = h
@@ -105,7 +124,8 @@ of_more r rules insts h k d within = let low = h k d within in omega (arith, low
 
 added_good : (r : Rule) (k : Session) → Good k → Good (added r k)
 added_good r k h =
-    let left = taken_out_named r.name k in of_more r left.rules left.course.fired (named_good r.name k h)
+    let left = taken_out_named r.name k in
+    emptied_good (record left { rules = left.rules ++ r ∷ []; breaks = left.breaks ++ false ∷ [] }) (of_more r left.rules left.course.fired (named_good r.name k h).0)
 
 strategy_good : (column : ℕ) (set : Option Strategy) (k : Session) → Good k → IfOk (strategy_given column set k).outcome Good
 strategy_good column None k h = h
@@ -120,13 +140,11 @@ breaks_good s column [] k h = h
 breaks_good s column (n ∷ ns) k h = h
 
 command_good : (s : Setting) (limit column : ℕ) (c : Command) (k : Session) → Good k → IfOk (command_done (in_force s k) limit column c k).outcome Good
-command_good s limit column (command.Make class puts) k h = marks_kept k.rules _ k.course.fired
-command_good s limit column (command.Remove tags) k h = marks_kept k.rules _ k.course.fired
-command_good s limit column command.RemoveAll k h = marks_kept k.rules _ k.course.fired
+command_good s limit column (command.Make class puts) k h = (marks_kept k.rules _ k.course.fired, none_kept (MarkedEarlier k.rules) k)
+command_good s limit column (command.Remove tags) k h = (marks_kept k.rules _ k.course.fired, none_kept (MarkedEarlier k.rules) k)
+command_good s limit column command.RemoveAll k h = (marks_kept k.rules _ k.course.fired, none_kept (MarkedEarlier k.rules) k)
 command_good s limit column (command.Run count) k h =
-    let at : Setting = record (in_force s k) { watch = k.watch } in
-    ok_as (Marked k.rules) Good (with_course k) (λ e. e) (run_on (limit - k.course.firings) at k.breaks column None count k.course).outcome
-    (run_marked (limit - k.course.firings) at k.breaks column None count k.course h) (λ m q. q)
+    run_good (limit - k.course.firings) (record (in_force s k) { watch = k.watch }) column None count k refl h
 command_good s limit column (command.Wm tags) k h = h
 command_good s limit column (command.Ppwm pattern) k h = h
 command_good s limit column command.Cs k h = h
@@ -136,7 +154,8 @@ command_good s limit column (command.Watch set) k h = level_good column set k h
 command_good s limit column (command.Pbreak names) k h = breaks_good (in_force s k) column names k h
 command_good s limit column (command.Add r) k h = added_good r k h
 command_good s limit column (command.Excise given) k h = all_good given k h
-command_good s limit column (command.Back count) k h = h
+command_good s limit column (command.Back count) k h =
+    if_ok Good (λ (e : Ending). Unit {0}) (back_given column count k).outcome (back_leaves Good (λ e. Unit {0}) column count k h (λ n e is. back_good n e k h is))
 command_good s limit column (command.Matches given) k h = h
 command_good s limit column command.Exit k h = h
 
@@ -152,4 +171,6 @@ commands_good s limit column (c ∷ rest) k h =
 pub session_marked : (s : Setting) (limit : ℕ) (commands : List Command) (names : Spellings) (coming : Coming)
     → IfOk (session_of s limit commands names coming).outcome (λ k. AreOf k.rules k.course.fired)
 session_marked s limit commands names coming =
-    commands_good s limit 0 commands (begun s.rules names coming) (All-nil (λ (i : Inst). i.rule < length s.rules))
+    ok_more Good (λ (k : Session). AreOf k.rules k.course.fired) (session_of s limit commands names coming).outcome
+    (commands_good s limit 0 commands (begun commands s.rules names coming) (All-nil (λ (i : Inst). i.rule < length s.rules), none_yet (MarkedEarlier s.rules) (list_any is_back commands)))
+    (λ k g. g.0)

@@ -20,7 +20,7 @@ use Rattle.ops_base.proofs.ConflictSetLaws.{conflict_set-is}
 use Rattle.ops_base.proofs.InOrder.{AllBefore, before_from_all_pairs}
 use Rattle.ops_base.proofs.LiveLaws.{dominance_stays, without_get}
 use Rattle.ops_base.proofs.Members.{IsMember, member_from_contains, contains_from_member}
-use Rattle.ops_meaning.specs.Running.{Course, Session, added, rule_named, standing_by, taken_out}
+use Rattle.ops_meaning.specs.Running.{Course, Session, added, rule_named, standing_by, taken_out, trail_emptied}
 use Rattle.ops_meaning.proofs.Ranked.{ranked_is}
 use Rattle.run_laws.specs.Standing.{ranking_in, stands_in}
 use Rattle.run_laws.proofs.Rankings.{Over, distinct_unfired, same_ranked, standing_ranked}
@@ -205,7 +205,7 @@ taken_order n k rising = order_without n k.rules k.course rising
 pub added_order : (r : Rule) (k : Session) → HasRisingTags k.course.wm → rule_named k.rules r.name ≡ None → AreOf k.rules k.course.fired
     → filter (λ i. not (i.rule == length k.rules)) (ranking_in (added r k)) ≡ ranking_in k
 added_order r k rising absent under =
-    ap (λ o. filter (λ i. not (i.rule == length k.rules)) (ranking_in (let left = unwrap_or (option_map (λ n. taken_out n k) o) k in record left { rules = left.rules ++ r ∷ []; breaks = left.breaks ++ false ∷ [] }))) absent
+    ap (λ o. filter (λ i. not (i.rule == length k.rules)) (ranking_in (let left = unwrap_or (option_map (λ n. taken_out n k) o) k in record (trail_emptied left) { rules = left.rules ++ r ∷ []; breaks = left.breaks ++ false ∷ [] }))) absent
     ∙ order_with r k.rules k.course rising under
 
 -- ---- one comes for another
@@ -231,13 +231,13 @@ marks_left n rules (i ∷ insts) h =
 pub replaced : (r : Rule) (n : ℕ) (k : Session) → rule_named k.rules r.name ≡ Some n → AreOf k.rules k.course.fired
     → stands_in (added r k) ≡ moved_insts n (stands_in k) ++ insts_of (length (without n k.rules)) (matches_of k.course.wm r.conditions)
 replaced r n k there under =
-    ap (λ o. stands_in (let left = unwrap_or (option_map (λ n. taken_out n k) o) k in record left { rules = left.rules ++ r ∷ []; breaks = left.breaks ++ false ∷ [] })) there
+    ap (λ o. stands_in (let left = unwrap_or (option_map (λ n. taken_out n k) o) k in record (trail_emptied left) { rules = left.rules ++ r ∷ []; breaks = left.breaks ++ false ∷ [] })) there
     ∙ stands_with (without n k.rules) r k.course.wm (moved_insts n k.course.fired) (marks_left n k.rules k.course.fired under)
     ∙ ap (λ is. is ++ insts_of (length (without n k.rules)) (matches_of k.course.wm r.conditions)) (stands_without n k.rules k.course.wm k.course.fired)
 
 pub replaced_order : (r : Rule) (n : ℕ) (k : Session) → HasRisingTags k.course.wm → rule_named k.rules r.name ≡ Some n → AreOf k.rules k.course.fired
     → filter (λ i. not (i.rule == length (without n k.rules))) (ranking_in (added r k)) ≡ moved_insts n (ranking_in k)
 replaced_order r n k rising there under =
-    ap (λ o. filter (λ i. not (i.rule == length (without n k.rules))) (ranking_in (let left = unwrap_or (option_map (λ n. taken_out n k) o) k in record left { rules = left.rules ++ r ∷ []; breaks = left.breaks ++ false ∷ [] }))) there
+    ap (λ o. filter (λ i. not (i.rule == length (without n k.rules))) (ranking_in (let left = unwrap_or (option_map (λ n. taken_out n k) o) k in record (trail_emptied left) { rules = left.rules ++ r ∷ []; breaks = left.breaks ++ false ∷ [] }))) there
     ∙ order_with r (without n k.rules) (record k.course { fired = moved_insts n k.course.fired }) rising (marks_left n k.rules k.course.fired under)
     ∙ taken_order n k rising

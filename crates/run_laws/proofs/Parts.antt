@@ -1,5 +1,5 @@
 -- Parts of an effect that leave this where they come to no end, and tests of all items of a list.
-use Rattle.std.proofs.Common.{◌≡◌, ℕ, List, [], ◌∷◌, Bool, true, Result, Ok, Err, IfOk, refl}
+use Rattle.std.proofs.Common.{◌≡◌, ℕ, List, [], ◌∷◌, Bool, true, Result, Ok, Err, IfOk, MatchResult, refl}
 use Rattle.std.specs.List.{list_all}
 use Rattle.std.proofs.lemmas.Bool.{and_parts, and_from}
 use Rattle.ops_meaning.specs.Effects.{Effect, going_on, followed_by, outcome_as}
@@ -19,6 +19,10 @@ ok_as P Q left end (Err e) p q = tt
 pub ok_more : {E S : Type 0} (P Q : S → Type 0) (o : Result S E) → IfOk o P → ((s : S) → P s → Q s) → IfOk o Q
 ok_more P Q (Ok s) p q = q s p
 ok_more P Q (Err e) p q = tt
+
+pub if_ok : {E S : Type 0} (P : S → Type 0) (R : E → Type 0) (o : Result S E) → MatchResult o P R → IfOk o P
+if_ok P R (Ok s) p = p
+if_ok P R (Err e) p = tt
 
 pub ok_both : {E S : Type 0} (P Q : S → Type 0) (o : Result S E) → IfOk o P → IfOk o Q → IfOk o (λ s. P s × Q s)
 ok_both P Q (Ok s) p q = (p, q)

@@ -1,8 +1,8 @@
 -- The walks over tests, conditions, actions and firings pass nothing over.
-use Rattle.std.proofs.Common.{◌≡◌, option_map, unwrap_or, ℕ, zero, suc, ◌+◌, ◌-◌, ◌<◌, List, [], ◌∷◌, ◌++◌, Bool, true, false, cond, Option, Some, None, Result, Ok, Err, IfOk, refl, ap, sym, ◌∙◌, subst, inl, inr, ◌⊎◌, arith}
+use Rattle.std.proofs.Common.{◌||◌, ◌≡◌, option_map, unwrap_or, ℕ, zero, suc, ◌+◌, ◌-◌, ◌<◌, List, [], ◌∷◌, ◌++◌, Bool, true, false, cond, Option, Some, None, Result, Ok, Err, IfOk, refl, ap, sym, ◌∙◌, subst, inl, inr, ◌⊎◌, arith}
 use Rattle.std.specs.Prelude.{Contains, option_and_then, ◌≢◌}
 use Rattle.std.specs.Bool.{MatchBool}
-use Rattle.std.specs.List.{flat_map}
+use Rattle.std.specs.List.{flat_map, list_any}
 use Rattle.std.proofs.lemmas.Bool.{and_parts}
 use Rattle.ops_base.specs.declared.actions.Action.{Action}
 use Rattle.ops_base.specs.declared.commands.Command.{Command}
@@ -27,7 +27,10 @@ use Rattle.ops_io.specs.Output.{column_after}
 use Rattle.ops_meaning.specs.Acting.{Setting, ActState, ActionError, Misdeed, Acted, in_action, action_done, actions_done, acted}
 use Rattle.ops_meaning.specs.Effects.{Effect, writes, going_on, outcome_as}
 use Rattle.ops_meaning.specs.Layout.{firing_bytes, rule_name}
-use Rattle.ops_meaning.specs.Running.{Course, Turned, Session, LastFiring, begun, turn, has_break, line_of_count, line_of_pause, last_of, one_less, given_by, ended_in, turned_of, with_course, is_exit, in_force, firing, run_on, next_to_fire, command_done, commands_done}
+use Rattle.ops_meaning.specs.Running.{Course, Turned, Session, LastFiring, begun, turn, has_break, line_of_count, line_of_pause, last_of, one_less, given_by, ended_in, turned_of, is_exit, in_force, firing, run_on, next_to_fire, command_done, commands_done, session_of, fired_on, is_back, trail_begun}
+use Rattle.run_laws.proofs.Parts.{ok_on}
+use Rattle.run_laws.proofs.Untrailed.{untrailed_left, commands_untrailed, any_append, or_false}
+use Rattle.run_laws.specs.Undoing.{untrailed}
 use Rattle.run_laws.specs.Cuts.{GoesOnWith, HasMore, cut_after}
 use Rattle.run_laws.specs.Finding.{EachAction, LeadTo, MembersFind, PartFinds, WalkFinds, condition_finds, test_finds, tests_find}
 use Rattle.run_laws.specs.Firings.{IfGoesOn, EachOfRun, EachOfCommand, EachOfCommands, EachFiring}
@@ -104,25 +107,25 @@ pauses names rules breaks (Some last) = by last.halted (has_break breaks last.ru
     by false true one two = inl (two, λ count. refl)
     by false false one two = inr (λ count. refl)
 
-ok_same : {o : Result Course Ending} {done : Course} (m : Course) → o ≡ Ok m → o ≡ Ok done → m ≡ done
-ok_same m one two = cc
+ok_same : {o : Result Session Ending} {done : Session} (k : Session) → o ≡ Ok k → o ≡ Ok done → k ≡ done
+ok_same k one two = cc
 
-stops_or_leaves : {o : Result Course Ending} {done : Course} (e : Ending) → o ≡ Err e → o ≡ Ok done → ⊥
+stops_or_leaves : {o : Result Session Ending} {done : Session} (e : Ending) → o ≡ Err e → o ≡ Ok done → ⊥
 stops_or_leaves {o} {done} e one two = let both : Err e ≡ Ok done = sym one ∙ two in absurd (cc)
 
-turn_paused : (column : ℕ) (o : Option (List ℕ)) (line : List ℕ) (m : Course) (next : Option Inst) (go_on : Inst → Effect Ending Course) → o ≡ Some line → (turn column o m next go_on).outcome ≡ Ok m
-turn_paused column (Some l) line m next go_on is = refl
-turn_paused column None line m next go_on is = absurd (cc)
+turn_paused : (column : ℕ) (o : Option (List ℕ)) (line : List ℕ) (k : Session) (next : Option Inst) (go_on : Inst → Effect Ending Session) → o ≡ Some line → (turn column o k next go_on).outcome ≡ Ok k
+turn_paused column (Some l) line k next go_on is = refl
+turn_paused column None line k next go_on is = absurd (cc)
 
-turn_ended : (column : ℕ) (o : Option (List ℕ)) (m : Course) (next : Option Inst) (go_on : Inst → Effect Ending Course) → next ≡ None → (turn column o m next go_on).outcome ≡ Ok m
-turn_ended column (Some l) m next go_on is = refl
-turn_ended column None m None go_on is = refl
-turn_ended column None m (Some i) go_on is = absurd (cc)
+turn_ended : (column : ℕ) (o : Option (List ℕ)) (k : Session) (next : Option Inst) (go_on : Inst → Effect Ending Session) → next ≡ None → (turn column o k next go_on).outcome ≡ Ok k
+turn_ended column (Some l) k next go_on is = refl
+turn_ended column None k None go_on is = refl
+turn_ended column None k (Some i) go_on is = absurd (cc)
 
-turn_goes : (column : ℕ) (o : Option (List ℕ)) (m : Course) (next : Option Inst) (i : Inst) (go_on : Inst → Effect Ending Course) → o ≡ None → next ≡ Some i → (turn column o m next go_on).outcome ≡ (go_on i).outcome
-turn_goes column (Some l) m next i go_on is on = absurd (cc)
-turn_goes column None m None i go_on is on = absurd (cc)
-turn_goes column None m (Some j) i go_on is on = let same : j ≡ i = cc in ap (λ k. (go_on k).outcome) same
+turn_goes : (column : ℕ) (o : Option (List ℕ)) (k : Session) (next : Option Inst) (i : Inst) (go_on : Inst → Effect Ending Session) → o ≡ None → next ≡ Some i → (turn column o k next go_on).outcome ≡ (go_on i).outcome
+turn_goes column (Some l) k next i go_on is on = absurd (cc)
+turn_goes column None k None i go_on is on = absurd (cc)
+turn_goes column None k (Some j) i go_on is on = let same : j ≡ i = cc in ap (λ l. (go_on l).outcome) same
 
 next_seen : (o : Option (List ℕ)) (next : Option Inst) (i : Inst) (Q : Inst → Type 0) → o ≡ None → next ≡ Some i → IfGoesOn o next Q → Q i
 next_seen (Some l) next i Q is on each = absurd (cc)
@@ -150,79 +153,107 @@ firing_counted s column i m =
     by (Ok a) = refl
     by (Err e) = tt
 
-module _ (P : Setting → ℕ → Inst → Course → Type 0) (s : Setting) (breaks : List Bool) (limit : ℕ) (i : Inst) (done : Course) (room : done.firings < limit) (is_next : next_to_fire s.rules done ≡ Some i) where
+-- these productions and this trace level
+record Stays (rules : List Rule) (watch : ℕ) (k : Session) : Type 0 where
+  same_rules : k.rules ≡ rules
+  same_watch : k.watch ≡ watch
+
+turn_keeps : (Q : Session → Type 0) (column : ℕ) (line : Option (List ℕ)) (k : Session) (next : Option Inst) (go_on : Inst → Effect Ending Session) → Q k
+    → ((i : Inst) → IfOk (go_on i).outcome Q) → IfOk (turn column line k next go_on).outcome Q
+turn_keeps Q column (Some line) k next go_on p q = p
+turn_keeps Q column None k None go_on p q = p
+turn_keeps Q column None k (Some i) go_on p q = q i
+
+run_keeps : (rules : List Rule) (watch left : ℕ) (s : Setting) (column : ℕ) (last : Option LastFiring) (count : Option ℕ) (k : Session) → k.rules ≡ rules → k.watch ≡ watch
+    → IfOk (run_on left s column last count k).outcome (Stays rules watch)
+run_keeps rules watch zero s column last count k e f =
+    turn_keeps (Stays rules watch) column (line_of_pause k.course.names s.rules k.breaks last count) k (next_to_fire s.rules k.course) _ (record { same_rules = e; same_watch = f }) (λ i. tt)
+run_keeps rules watch (suc left) s column last count k e f =
+    turn_keeps (Stays rules watch) column (line_of_pause k.course.names s.rules k.breaks last count) k (next_to_fire s.rules k.course) _ (record { same_rules = e; same_watch = f })
+    (λ i. let fire = firing s column i k.course in
+    ok_on (λ (t : Turned). t.course.firings ≡ k.course.firings + 1) (Stays rules watch) fire.bytes fire.outcome (λ t. run_on left s (column_after column fire.bytes) (last_of i t) (one_less count) (fired_on t.course k)) (firing_counted s column i k.course)
+    (λ t q. run_keeps rules watch left s (column_after column fire.bytes) (last_of i t) (one_less count) (fired_on t.course k) e f))
+
+module _ (P : Setting → ℕ → Inst → Course → Type 0) (s : Setting) (limit : ℕ) (i : Inst) (done : Session) (room : done.course.firings < limit) (is_next : next_to_fire s.rules done.course ≡ Some i) where
   -- P holds of the firing that a run goes on with
   abbrev Seen : Type 0
-  Seen = (at : ℕ) × P s at i done
+  Seen = (at : ℕ) × P s at i done.course
 
-  pub run_seen : (left n column : ℕ) (last : Option LastFiring) (count : Option ℕ) (m : Course) → left ≡ limit - m.firings → HasMore count n
-      → EachOfRun P left s breaks column last count m
-      → (run_on left s breaks column last (Some n) m).outcome ≡ Ok done → (run_on left s breaks column last (Some (suc n)) m).outcome ≢ Ok done → Seen
-  run_seen zero n column last count m counts has each is more = absurd (none n is more (pauses m.names s.rules breaks last))
+  pub run_seen : (left n column : ℕ) (last : Option LastFiring) (count : Option ℕ) (k : Session) → left ≡ limit - k.course.firings → HasMore count n
+      → EachOfRun P left s column last count k
+      → (run_on left s column last (Some n) k).outcome ≡ Ok done → (run_on left s column last (Some (suc n)) k).outcome ≢ Ok done → Seen
+  run_seen zero n column last count k counts has each is more = absurd (none n is more (pauses k.course.names s.rules k.breaks last))
     where
-      none : (n : ℕ) → (run_on zero s breaks column last (Some n) m).outcome ≡ Ok done → (run_on zero s breaks column last (Some (suc n)) m).outcome ≢ Ok done
-          → ((line : List ℕ) × ((count : Option ℕ) → line_of_pause m.names s.rules breaks last count ≡ Some line)) ⊎ ((count : Option ℕ) → line_of_pause m.names s.rules breaks last count ≡ line_of_count count) → ⊥
-      none n is more (inl p) = more (turn_paused column _ p.0 m _ _ (p.1 (Some (suc n))) ∙ sym (turn_paused column _ p.0 m _ _ (p.1 (Some n))) ∙ is)
+      none : (n : ℕ) → (run_on zero s column last (Some n) k).outcome ≡ Ok done → (run_on zero s column last (Some (suc n)) k).outcome ≢ Ok done
+          → ((line : List ℕ) × ((count : Option ℕ) → line_of_pause k.course.names s.rules k.breaks last count ≡ Some line)) ⊎ ((count : Option ℕ) → line_of_pause k.course.names s.rules k.breaks last count ≡ line_of_count count) → ⊥
+      none n is more (inl p) = more (turn_paused column _ p.0 k _ _ (p.1 (Some (suc n))) ∙ sym (turn_paused column _ p.0 k _ _ (p.1 (Some n))) ∙ is)
       none zero is more (inr f) =
-          let same : m ≡ done = ok_same m (turn_paused column _ _ m _ _ (f (Some zero))) is in
-          let firings : m.firings ≡ done.firings = ap (λ (m : Course). m.firings) same in
+          let same : k ≡ done = ok_same k (turn_paused column _ _ k _ _ (f (Some zero))) is in
+          let firings : k.course.firings ≡ done.course.firings = ap (λ (k : Session). k.course.firings) same in
           omega (arith, counts, firings, room)
-      none (suc n) is more (inr f) = by (next_to_fire s.rules m) refl
+      none (suc n) is more (inr f) = by (next_to_fire s.rules k.course) refl
         where
-          by : (o : Option Inst) → next_to_fire s.rules m ≡ o → ⊥
-          by None ended = more (turn_ended column _ m _ _ ended ∙ sym (turn_ended column _ m _ _ ended) ∙ is)
-          by (Some j) on = stops_or_leaves (ending.Limit m.firings) (turn_goes column _ m _ j _ (f (Some (suc n))) on) is
-  run_seen (suc left) n column last count m counts has each is more =
-      by n has is more (pauses m.names s.rules breaks last)
-      (λ n column j t counts has each is more. run_seen left n column (last_of j t) (one_less count) t.course counts has each is more)
+          by : (o : Option Inst) → next_to_fire s.rules k.course ≡ o → ⊥
+          by None ended = more (turn_ended column _ k _ _ ended ∙ sym (turn_ended column _ k _ _ ended) ∙ is)
+          by (Some j) on = stops_or_leaves (ending.Limit k.course.firings) (turn_goes column _ k _ j _ (f (Some (suc n))) on) is
+  run_seen (suc left) n column last count k counts has each is more =
+      by n has is more (pauses k.course.names s.rules k.breaks last)
+      (λ n column j t counts has each is more. run_seen left n column (last_of j t) (one_less count) (fired_on t.course k) counts has each is more)
     where
       by : (n : ℕ) → HasMore count n
-          → (run_on (suc left) s breaks column last (Some n) m).outcome ≡ Ok done → (run_on (suc left) s breaks column last (Some (suc n)) m).outcome ≢ Ok done
-          → ((line : List ℕ) × ((count : Option ℕ) → line_of_pause m.names s.rules breaks last count ≡ Some line)) ⊎ ((count : Option ℕ) → line_of_pause m.names s.rules breaks last count ≡ line_of_count count)
+          → (run_on (suc left) s column last (Some n) k).outcome ≡ Ok done → (run_on (suc left) s column last (Some (suc n)) k).outcome ≢ Ok done
+          → ((line : List ℕ) × ((count : Option ℕ) → line_of_pause k.course.names s.rules k.breaks last count ≡ Some line)) ⊎ ((count : Option ℕ) → line_of_pause k.course.names s.rules k.breaks last count ≡ line_of_count count)
           → ((n column : ℕ) (j : Inst) (t : Turned) → left ≡ limit - t.course.firings → HasMore (one_less count) n
-          → EachOfRun P left s breaks column (last_of j t) (one_less count) t.course
-          → (run_on left s breaks column (last_of j t) (Some n) t.course).outcome ≡ Ok done
-          → (run_on left s breaks column (last_of j t) (Some (suc n)) t.course).outcome ≢ Ok done → Seen)
+          → EachOfRun P left s column (last_of j t) (one_less count) (fired_on t.course k)
+          → (run_on left s column (last_of j t) (Some n) (fired_on t.course k)).outcome ≡ Ok done
+          → (run_on left s column (last_of j t) (Some (suc n)) (fired_on t.course k)).outcome ≢ Ok done → Seen)
           → Seen
       by n has is more (inl p) rest =
-          absurd (more (turn_paused column _ p.0 m _ _ (p.1 (Some (suc n))) ∙ sym (turn_paused column _ p.0 m _ _ (p.1 (Some n))) ∙ is))
+          absurd (more (turn_paused column _ p.0 k _ _ (p.1 (Some (suc n))) ∙ sym (turn_paused column _ p.0 k _ _ (p.1 (Some n))) ∙ is))
       by zero has is more (inr f) rest =
-          let same : m ≡ done = ok_same m (turn_paused column _ _ m _ _ (f (Some zero))) is in
-          let here : next_to_fire s.rules m ≡ Some i = ap (next_to_fire s.rules) same ∙ is_next in
+          let same : k ≡ done = ok_same k (turn_paused column _ _ k _ _ (f (Some zero))) is in
+          let here : next_to_fire s.rules k.course ≡ Some i = ap (λ (k : Session). next_to_fire s.rules k.course) same ∙ is_next in
           let seen = next_seen _ _ i _ (f count ∙ unpaused count zero has) here each in
-          let Q : Course → Type 0 = P s column i in
+          let Q : Session → Type 0 = λ k. P s column i k.course in
           (column, subst Q same seen.0)
-      by (suc n) has is more (inr f) rest = at_next (next_to_fire s.rules m) refl
+      by (suc n) has is more (inr f) rest = at_next (next_to_fire s.rules k.course) refl
         where
-          at_next : (o : Option Inst) → next_to_fire s.rules m ≡ o → Seen
-          at_next None ended = absurd (more (turn_ended column _ m _ _ ended ∙ sym (turn_ended column _ m _ _ ended) ∙ is))
+          at_next : (o : Option Inst) → next_to_fire s.rules k.course ≡ o → Seen
+          at_next None ended = absurd (more (turn_ended column _ k _ _ ended ∙ sym (turn_ended column _ k _ _ ended) ∙ is))
           at_next (Some j) on =
-              let goes = turn_goes column _ m _ j _ (f (Some (suc n))) on in
-              let goes_more = turn_goes column _ m _ j _ (f (Some (suc (suc n)))) on in
+              let goes = turn_goes column _ k _ j _ (f (Some (suc n))) on in
+              let goes_more = turn_goes column _ k _ j _ (f (Some (suc (suc n)))) on in
               let seen = next_seen _ _ j _ (f count ∙ unpaused count (suc n) has) on each in
-              let e = firing s column j m in
-              let Left : ℕ → Type 0 = λ n. (going_on e.bytes e.outcome (λ t. run_on left s breaks (column_after column e.bytes) (last_of j t) (Some n) t.course)).outcome ≡ Ok done in
-              fired e.bytes e.outcome (firing_counted s column j m) seen.1
-              (subst Left (one_off n) (sym goes ∙ is)) (λ k. more (goes_more ∙ subst Left (sym (one_off (suc n))) k))
+              let e = firing s column j k.course in
+              let Left : ℕ → Type 0 = λ n. (going_on e.bytes e.outcome (λ t. run_on left s (column_after column e.bytes) (last_of j t) (Some n) (fired_on t.course k))).outcome ≡ Ok done in
+              fired e.bytes e.outcome (firing_counted s column j k.course) seen.1
+              (subst Left (one_off n) (sym goes ∙ is)) (λ l. more (goes_more ∙ subst Left (sym (one_off (suc n))) l))
             where
-              fired : (bytes : List ℕ) (o : Result Turned Ending) → IfOk o (λ t. t.course.firings ≡ m.firings + 1)
-                  → IfOk o (λ t. EachOfRun P left s breaks (column_after column bytes) (last_of j t) (one_less count) t.course)
-                  → (going_on bytes o (λ t. run_on left s breaks (column_after column bytes) (last_of j t) (Some n) t.course)).outcome ≡ Ok done
-                  → (going_on bytes o (λ t. run_on left s breaks (column_after column bytes) (last_of j t) (Some (suc n)) t.course)).outcome ≢ Ok done → Seen
+              fired : (bytes : List ℕ) (o : Result Turned Ending) → IfOk o (λ t. t.course.firings ≡ k.course.firings + 1)
+                  → IfOk o (λ t. EachOfRun P left s (column_after column bytes) (last_of j t) (one_less count) (fired_on t.course k))
+                  → (going_on bytes o (λ t. run_on left s (column_after column bytes) (last_of j t) (Some n) (fired_on t.course k))).outcome ≡ Ok done
+                  → (going_on bytes o (λ t. run_on left s (column_after column bytes) (last_of j t) (Some (suc n)) (fired_on t.course k))).outcome ≢ Ok done → Seen
               fired bytes (Ok t) counted each is more =
                   rest n (column_after column bytes) j t (omega (arith, counts, counted)) (more_left count n has) each is more
               fired bytes (Err x) counted each is more = absurd (cc)
+
+-- A run keeps the productions in force, and the trace level.
+run_stays : (left : ℕ) (s : Setting) (column : ℕ) (last : Option LastFiring) (count : Option ℕ) (k done : Session) → (run_on left s column last count k).outcome ≡ Ok done → (done.rules ≡ k.rules) × (done.watch ≡ k.watch)
+run_stays left s column last count k done is =
+    let R : Result Session Ending → Type 0 = λ o. IfOk o (Stays k.rules k.watch) in
+    let kept = subst R is (run_keeps k.rules k.watch left s column last count k refl refl) in (kept.same_rules, kept.same_watch)
 
 -- ---- a session
 
 module _ (P : Setting → ℕ → Inst → Course → Type 0) (s : Setting) (limit : ℕ) (i : Inst) (done : Session) (room : done.course.firings < limit) (is_next : next_to_fire done.rules done.course ≡ Some i) where
   -- what a run leaves that is the last command
-  abbrev LeavesLast : List ℕ → Result Course Ending → Session → Result Session Ending
-  LeavesLast bytes o k = (going_on bytes (outcome_as (with_course k) (λ (e : Ending). e) o) (λ k. writes [] k)).outcome
+  last_left : (bytes : List ℕ) (o : Result Session Ending) → (going_on bytes o (λ k. writes [] k)).outcome ≡ Ok done → o ≡ Ok done
+  last_left bytes (Ok k) is = is
+  last_left bytes (Err e) is = absurd (cc)
 
-  last_left : (bytes : List ℕ) (o : Result Course Ending) (k : Session) → LeavesLast bytes o k ≡ Ok done → (m : Course) × (o ≡ Ok m) × (with_course k m ≡ done)
-  last_left bytes (Ok m) k is = (m, refl, cc)
-  last_left bytes (Err e) k is = absurd (cc)
+  left_last : (bytes : List ℕ) (o : Result Session Ending) → o ≡ Ok done → (going_on bytes o (λ k. writes [] k)).outcome ≡ Ok done
+  left_last bytes (Ok k) is = is
+  left_last bytes (Err e) is = absurd (cc)
 
   commands_seen : (n column : ℕ) (before after : List Command) (count : Option ℕ) (k : Session) → HasMore count n
       → EachOfCommands P s limit column (before ++ command.Run count ∷ after) k
@@ -230,16 +261,15 @@ module _ (P : Setting → ℕ → Inst → Course → Type 0) (s : Setting) (lim
       → (at : ℕ) × P (record (in_force s done) { watch = done.watch }) at i done.course
   commands_seen n column [] after count k has each is more =
       let at_level : Setting = record (in_force s k) { watch = k.watch } in
-      let r = last_left _ (run_on (limit - k.course.firings) at_level k.breaks column None (Some n) k.course).outcome k is in
-      let m = r.0 in
-      let course : m ≡ done.course = ap (λ (k : Session). k.course) r.2 in
-      let left_more = run_on (limit - k.course.firings) at_level k.breaks column None (Some (suc n)) k.course in
-      let R : Course → Type 0 = λ m. m.firings < limit in
-      let N : Session → Type 0 = λ k. next_to_fire k.rules k.course ≡ Some i in
-      let seen = run_seen P at_level k.breaks limit i m (subst R (sym course) room) (subst N (sym r.2) is_next) (limit - k.course.firings) n column None count k.course refl has each.0 r.1
-      (λ same. more (ap (λ o. LeavesLast left_more.bytes o k) same ∙ ap Ok r.2)) in
-      let Q : Session → Type 0 = λ k. P (record (in_force s k) { watch = k.watch }) seen.0 i k.course in
-      (seen.0, subst Q r.2 seen.1)
+      let once = run_on (limit - k.course.firings) at_level column None (Some n) k in
+      let once_more = run_on (limit - k.course.firings) at_level column None (Some (suc n)) k in
+      let r : once.outcome ≡ Ok done = last_left once.bytes once.outcome is in
+      let stay = run_stays (limit - k.course.firings) at_level column None (Some n) k done r in
+      let N : List Rule → Type 0 = λ rules. next_to_fire rules done.course ≡ Some i in
+      let seen = run_seen P at_level limit i done room (subst N stay.0 is_next) (limit - k.course.firings) n column None count k refl has each.0 r
+      (λ same. more (left_last once_more.bytes once_more.outcome same)) in
+      let Q : List Rule → ℕ → Type 0 = λ rules watch. P (record s { rules = rules; watch = watch }) seen.0 i done.course in
+      (seen.0, subst (λ watch. Q done.rules watch) (sym stay.1) (subst (λ rules. Q rules k.watch) (sym stay.0) seen.1))
   commands_seen n column (c ∷ before) after count k has each is more =
       let e = command_done (in_force s k) limit column c k in
       by (is_exit c) e.bytes e.outcome (λ next each is more. commands_seen n (column_after column e.bytes) before after count next has each is more) each is more
@@ -257,9 +287,49 @@ module _ (P : Setting → ℕ → Inst → Course → Type 0) (s : Setting) (lim
       by false bytes (Ok next) rest each is more = rest next each.1 is more
       by false bytes (Err x) rest each is more = absurd (cc)
 
--- P holds of each firing that a run goes on with.
+-- P holds of each firing that a run goes on with. Where no `back` stands in the commands that are cut, the session that
+-- is cut has no trail, and is otherwise as the whole one.
 pub firing_seen : (P : Setting → ℕ → Inst → Course → Type 0) (s : Setting) (limit n : ℕ) (before after : List Command) (count : Option ℕ) (names : Spellings) (coming : Coming) (k : Session) (i : Inst)
     → EachFiring P s limit (before ++ command.Run count ∷ after) names coming → GoesOnWith s limit before count n names coming k i
     → (column : ℕ) × P (record (in_force s k) { watch = k.watch }) column i k.course
 firing_seen P s limit n before after count names coming k i each g =
-    commands_seen P s limit i k g.session g.next n 0 before after count (begun s.rules names coming) g.run each g.reached g.more
+    by (list_any is_back before) refl
+  where
+    whole : List Command
+    whole = before ++ command.Run count ∷ after
+
+    start : Bool → Session
+    start keeps = record (begun [] s.rules names coming) { trail = trail_begun keeps }
+
+    cut_as : (m : ℕ) → list_any is_back (cut_after before m) ≡ list_any is_back before
+    cut_as m = any_append before (command.Run (Some m) ∷ []) ∙ or_false (list_any is_back before)
+
+    none_cut : (m : ℕ) → list_any is_back before ≡ false → list_any is_back (cut_after before m) ≡ false
+    none_cut m e = cut_as m ∙ e
+
+    at_start : (b : Bool) (m : ℕ) → list_any is_back before ≡ b → session_of s limit (cut_after before m) names coming ≡ commands_done s limit 0 (cut_after before m) (start b)
+    at_start b m e = ap (λ c. commands_done s limit 0 (cut_after before m) (start c)) (cut_as m ∙ e)
+
+    each_at : (b : Bool) → list_any is_back whole ≡ b → EachOfCommands P s limit 0 whole (start b)
+    each_at b e = let Q : Bool → Type 0 = λ c. EachOfCommands P s limit 0 whole (start c) in subst Q e each
+
+    by : (b : Bool) → list_any is_back before ≡ b → (column : ℕ) × P (record (in_force s k) { watch = k.watch }) column i k.course
+    by true e =
+        let has : list_any is_back whole ≡ true = any_append before (command.Run count ∷ after) ∙ ap (λ b. b || list_any is_back after) e in
+        commands_seen P s limit i k g.session g.next n 0 before after count (start true) g.run (each_at true has)
+        (sym (ap (λ (f : Effect Ending Session). f.outcome) (at_start true n e)) ∙ g.reached)
+        (λ same. g.more (ap (λ (f : Effect Ending Session). f.outcome) (at_start true (suc n) e) ∙ same))
+    by false e = with_trail (list_any is_back whole) refl
+      where
+        with_trail : (b : Bool) → list_any is_back whole ≡ b → (column : ℕ) × P (record (in_force s k) { watch = k.watch }) column i k.course
+        with_trail b is =
+            let same : (m : ℕ) → (session_of s limit (cut_after before m) names coming).outcome ≡ outcome_as untrailed (λ f. f) (commands_done s limit 0 (cut_after before m) (start b)).outcome
+            = λ m. ap (λ (f : Effect Ending Session). f.outcome) (at_start false m e ∙ sym (commands_untrailed s limit 0 (cut_after before m) (start b) (none_cut m e))) in
+            let r = untrailed_left (commands_done s limit 0 (cut_after before n) (start b)).outcome k (sym (same n) ∙ g.reached) in
+            let course : r.0.course ≡ k.course = ap (λ (k : Session). k.course) r.2 in
+            let room : r.0.course.firings < limit = subst (λ (m : Course). m.firings < limit) (sym course) g.session in
+            let is_next : next_to_fire r.0.rules r.0.course ≡ Some i = subst (λ (k : Session). next_to_fire k.rules k.course ≡ Some i) (sym r.2) g.next in
+            let seen = commands_seen P s limit i r.0 room is_next n 0 before after count (start b) g.run (each_at b is) r.1
+            (λ stays. g.more (same (suc n) ∙ ap (outcome_as untrailed (λ f. f)) stays ∙ ap Ok r.2)) in
+            let Q : Session → Type 0 = λ k. P (record (in_force s k) { watch = k.watch }) seen.0 i k.course in
+            (seen.0, subst Q r.2 seen.1)

@@ -1,8 +1,8 @@
 -- In each firing of a session of a valid program the elements are whole, and the right side finds all that it names.
-use Rattle.std.proofs.Common.{◌≡◌, ℕ, zero, suc, ◌+◌, ◌-◌, List, [], ◌∷◌, ◌++◌, map, fold, length, Bool, true, false, cond, ◌&&◌, Option, Some, None, IfOk, refl, ap, sym, subst, inl, inr, nat_lt, unwrap_or, option_map, arith}
+use Rattle.std.proofs.Common.{slice_get, ◌≡◌, ℕ, zero, suc, ◌+◌, ◌-◌, List, [], ◌∷◌, ◌++◌, map, fold, length, Bool, true, false, cond, ◌&&◌, Option, Some, None, IfOk, refl, ap, sym, subst, inl, inr, nat_lt, unwrap_or, option_map, arith}
 use Rattle.std.specs.Prelude.{Contains, MatchOption}
 use Rattle.std.specs.Bool.{MatchBool}
-use Rattle.std.specs.List.{list_all}
+use Rattle.std.specs.List.{list_any, list_all}
 use Rattle.std.proofs.lemmas.Bool.{and_parts, and_from}
 use Rattle.std.proofs.lemmas.List.Elements.{All-nil}
 use Rattle.ops_base.specs.declared.actions.Action.{Action}
@@ -34,7 +34,8 @@ use Rattle.ops_meaning.specs.Acting as acting
 use Rattle.ops_meaning.specs.Effects.{Effect, writes, and_then}
 use Rattle.ops_meaning.specs.Kept.{WellKept, IsLawfulOver}
 use Rattle.ops_meaning.specs.Layout.{rule_name}
-use Rattle.ops_meaning.specs.Running.{Course, Turned, Session, LastFiring, begun, turn, line_of_pause, last_of, one_less, given_by, ended_in, turned_of, with_course, element_made, removals, strategy_given, level_given, breaks_given, is_exit, in_force, rule_named, taken_out, taken_out_named, added, firing, run_on, next_to_fire, command_done, commands_done, session_of}
+use Rattle.ops_meaning.specs.Running.{Course, Turned, Session, LastFiring, begun, turn, line_of_pause, last_of, one_less, given_by, ended_in, turned_of, element_made, removals, strategy_given, level_given, breaks_given, is_exit, in_force, rule_named, taken_out, taken_out_named, added, firing, run_on, next_to_fire, command_done, commands_done, session_of, Earlier, back_given, earlier, fired_on, is_back, restored, states_kept}
+use Rattle.ops_meaning.proofs.Trails.{AreKept, back_leaves, firing_kept_too, is_kept, none_kept, none_yet, those_before}
 use Rattle.ops_meaning.proofs.Lawful.{added_kept, kept_after, removals_lawful, removals_last, clearing_lawful, clearing_last}
 use Rattle.ops_meaning.proofs.RisingTags.{acts_lawfully}
 use Rattle.run_laws.specs.Elements.{IsWhole, AreWhole}
@@ -44,7 +45,7 @@ use Rattle.run_laws.specs.Finding.{AllFind}
 use Rattle.run_laws.specs.Firings.{IfGoesOn, EachOfRun, EachOfCommand, EachOfCommands, EachFiring, FindsAll, HoldWhole, column_after_line}
 use Rattle.run_laws.proofs.Beginnings.{begins_as_matched, whole_match}
 use Rattle.run_laws.proofs.Knowing.{Holds, there, all_at, actions_find}
-use Rattle.run_laws.proofs.Parts.{ok_on, ok_as, ok_more, ok_both}
+use Rattle.run_laws.proofs.Parts.{if_ok, ok_on, ok_as, ok_more, ok_both}
 use Rattle.run_laws.proofs.Rooms.{fits_class, fixed_fields_room}
 use Rattle.run_laws.proofs.Sights.{each_at, sides_valid, begun_knows}
 use Rattle.run_laws.proofs.Wholes.{EachWhole, MakesWhole, Wholes, AreWholes, one_more, done_whole, actions_whole, actions_hold_whole}
@@ -140,30 +141,52 @@ HoldsNext P = (s : Setting) (column : ℕ) (i : Inst) (m : Course) → IsSound s
 
 -- ---- a run
 
-turn_good : (s : Setting) (column : ℕ) (line : Option (List ℕ)) (m : Course) (next : Option Inst) (go_on : Inst → Effect Ending Course) (Q : Inst → Type 0) → IsGood s.classes m
-    → ((i : Inst) → next ≡ Some i → Q i × IfOk (go_on i).outcome (IsGood s.classes)) → IfGoesOn line next Q × IfOk (turn column line m next go_on).outcome (IsGood s.classes)
-turn_good s column (Some line) m next go_on Q good on = (tt, good)
-turn_good s column None m None go_on Q good on = (tt, good)
-turn_good s column None m (Some i) go_on Q good on = on i refl
+-- the same of what was before a firing
+record GoodEarlier (classes : List Class) (e : Earlier) : Type 0 where
+  kept : WellKept e.wm e.last
+  whole : EachWhole classes e.wm
 
-run_good : (P : Setting → ℕ → Inst → Course → Type 0) → HoldsNext P → (left : ℕ) (s : Setting) (breaks : List Bool) (column : ℕ) (last : Option LastFiring) (count : Option ℕ) (m : Course) → IsSound s → IsGood s.classes m
-    → EachOfRun P left s breaks column last count m × IfOk (run_on left s breaks column last count m).outcome (IsGood s.classes)
-run_good P holds zero s breaks column last count m sound good =
-    (tt, (turn_good s column (line_of_pause m.names s.rules breaks last count) m (next_to_fire s.rules m) _ (λ i. Unit {0}) good (λ i is. (tt, tt))).1)
-run_good P holds (suc left) s breaks column last count m sound good =
-    turn_good s column (line_of_pause m.names s.rules breaks last count) m (next_to_fire s.rules m) _ _ good
+-- of a session, and of each state on its trail
+abbrev GoodRun : List Class → Session → Type 0
+GoodRun classes k = IsGood classes k.course × AreKept (GoodEarlier classes) k
+
+fired_good : (classes : List Class) (m : Course) (k : Session) → GoodRun classes k → IsGood classes m → GoodRun classes (fired_on m k)
+fired_good classes m k g h =
+    let was : GoodEarlier classes (earlier k.course) = record { kept = g.0.kept; whole = g.0.whole } in
+    (h, firing_kept_too (GoodEarlier classes) m k was g.1)
+
+turn_good : (s : Setting) (column : ℕ) (line : Option (List ℕ)) (R : Session → Type 0) (k : Session) (next : Option Inst) (go_on : Inst → Effect Ending Session) (Q : Inst → Type 0) → R k
+    → ((i : Inst) → next ≡ Some i → Q i × IfOk (go_on i).outcome R) → IfGoesOn line next Q × IfOk (turn column line k next go_on).outcome R
+turn_good s column (Some line) R k next go_on Q good on = (tt, good)
+turn_good s column None R k None go_on Q good on = (tt, good)
+turn_good s column None R k (Some i) go_on Q good on = on i refl
+
+-- A run keeps the productions in force, which are these, and leaves the session good.
+record RunKeeps (classes : List Class) (rules : List Rule) (k : Session) : Type 0 where
+  good : GoodRun classes k
+  same : k.rules ≡ rules
+
+run_good : (P : Setting → ℕ → Inst → Course → Type 0) → HoldsNext P → (rules : List Rule) (left : ℕ) (s : Setting) (column : ℕ) (last : Option LastFiring) (count : Option ℕ) (k : Session) → IsSound s → RunKeeps s.classes rules k
+    → EachOfRun P left s column last count k × IfOk (run_on left s column last count k).outcome (RunKeeps s.classes rules)
+run_good P holds rules zero s column last count k sound r =
+    (tt, (turn_good s column (line_of_pause k.course.names s.rules k.breaks last count) (RunKeeps s.classes rules) k (next_to_fire s.rules k.course) _ (λ i. Unit {0}) r (λ i is. (tt, tt))).1)
+run_good P holds rules (suc left) s column last count k sound r =
+    turn_good s column (line_of_pause k.course.names s.rules k.breaks last count) (RunKeeps s.classes rules) k (next_to_fire s.rules k.course) _ _ r
     (λ i is.
-    let in_set = next_there s m i is in
-    let e = firing s column i m in
+    let good = r.good.0 in
+    let in_set = next_there s k.course i is in
+    let e = firing s column i k.course in
     let Good : Turned → Type 0 = λ t. IsGood s.classes t.course in
-    let rest : Turned → Type 0 = λ t. EachOfRun P left s breaks (column_after column e.bytes) (last_of i t) (one_less count) t.course in
-    let one = firing_good s column i m sound good in_set in (
+    let on : Turned → Session = λ t. fired_on t.course k in
+    let rest : Turned → Type 0 = λ t. EachOfRun P left s (column_after column e.bytes) (last_of i t) (one_less count) (on t) in
+    let one = firing_good s column i k.course sound good in_set in
+    let next_keeps : (t : Turned) → Good t → RunKeeps s.classes rules (on t) = λ t g. record { good = fired_good s.classes t.course k r.good g; same = r.same } in (
       (
-        holds s column i m sound good in_set,
-        ok_more Good rest e.outcome one (λ t g. (run_good P holds left s breaks (column_after column e.bytes) (last_of i t) (one_less count) t.course sound g).0),
+        holds s column i k.course sound good in_set,
+        ok_more Good rest e.outcome one (λ t g. (run_good P holds rules left s (column_after column e.bytes) (last_of i t) (one_less count) (on t) sound (next_keeps t g)).0),
       ),
-      ok_on Good (IsGood s.classes) e.bytes e.outcome (λ t. run_on left s breaks (column_after column e.bytes) (last_of i t) (one_less count) t.course) one
-          (λ t g. (run_good P holds left s breaks (column_after column e.bytes) (last_of i t) (one_less count) t.course sound g).1),
+      ok_on Good (RunKeeps s.classes rules) e.bytes e.outcome (λ t. run_on left s (column_after column e.bytes) (last_of i t) (one_less count) (on t)) one
+          (λ t g. (run_good P holds rules left s (column_after column e.bytes) (last_of i t) (one_less count) (on t) sound (next_keeps t g)).1),
     ))
 
 -- ---- commands
@@ -210,6 +233,7 @@ with_all p (y ∷ xs) x h k =
 -- what a command leaves of a session whose productions in force are valid
 record StillGood (classes : List Class) (text : ℕ) (k : Session) : Type 0 where
   course : IsGood classes k.course
+  trail : AreKept (GoodEarlier classes) k
   rules : list_all (rule_is_valid classes text) k.rules ≡ true
 
 module _ (P : Setting → ℕ → Inst → Course → Type 0) (holds : HoldsNext P) (s : Setting) (classes_valid : list_all class_is_valid s.classes ≡ true) (limit : ℕ) where
@@ -221,19 +245,20 @@ module _ (P : Setting → ℕ → Inst → Course → Type 0) (holds : HoldsNext
 
   strategy_good : (column : ℕ) (set : Option Strategy) (k : Session) → GoodSession k → IfOk (strategy_given column set k).outcome GoodSession
   strategy_good column None k g = g
-  strategy_good column (Some x) k g = record { course = record { kept = g.course.kept; whole = g.course.whole }; rules = g.rules }
+  strategy_good column (Some x) k g = record { course = record { kept = g.course.kept; whole = g.course.whole }; trail = g.trail; rules = g.rules }
 
   level_good : (column : ℕ) (set : Option ℕ) (k : Session) → GoodSession k → IfOk (level_given column set k).outcome GoodSession
   level_good column None k g = g
-  level_good column (Some n) k g = record { course = g.course; rules = g.rules }
+  level_good column (Some n) k g = record { course = g.course; trail = g.trail; rules = g.rules }
 
   breaks_good : (t : Setting) (column : ℕ) (names : List Sym) (k : Session) → GoodSession k → IfOk (breaks_given t column names k).outcome GoodSession
   breaks_good t column [] k g = g
-  breaks_good t column (n ∷ ns) k g = record { course = g.course; rules = g.rules }
+  breaks_good t column (n ∷ ns) k g = record { course = g.course; trail = g.trail; rules = g.rules }
 
   taken_good : (n : ℕ) (k : Session) → GoodSession k → GoodSession (taken_out n k)
   taken_good n k g = record {
     course = record { kept = g.course.kept; whole = g.course.whole };
+    trail = none_kept (GoodEarlier s.classes) k;
     rules = without_all (rule_is_valid s.classes (length s.text)) n k.rules g.rules;
   }
 
@@ -247,11 +272,21 @@ module _ (P : Setting → ℕ → Inst → Course → Type 0) (holds : HoldsNext
   added_good : (r : Rule) (k : Session) → rule_is_valid s.classes (length s.text) r ≡ true → GoodSession k → GoodSession (added r k)
   added_good r k h g =
       let left = named_good r.name k g in
-      record { course = left.course; rules = with_all (rule_is_valid s.classes (length s.text)) (taken_out_named r.name k).rules r left.rules h }
+      record { course = left.course; trail = none_kept (GoodEarlier s.classes) (taken_out_named r.name k); rules = with_all (rule_is_valid s.classes (length s.text)) (taken_out_named r.name k).rules r left.rules h }
 
   excised_good : (names : List Sym) (k : Session) → GoodSession k → GoodSession (fold (λ k name. taken_out_named name k) k names)
   excised_good [] k g = g
   excised_good (name ∷ names) k g = excised_good names (taken_out_named name k) (named_good name k g)
+
+  still_good : (k : Session) → GoodSession k → (after : Session) → RunKeeps s.classes k.rules after → GoodSession after
+  still_good k g after q =
+      let valid : List Rule → Type 0 = λ rules. list_all (rule_is_valid s.classes (length s.text)) rules ≡ true in
+      record { course = q.good.0; trail = q.good.1; rules = subst valid (sym q.same) g.rules }
+
+  back_good : (n : ℕ) (e : Earlier) (k : Session) → GoodSession k → slice_get (states_kept k) n ≡ Some e → GoodSession (restored n k e)
+  back_good n e k g is =
+      let was : GoodEarlier s.classes e = is_kept (GoodEarlier s.classes) k n e g.trail is in
+      record { course = record { kept = was.kept; whole = was.whole }; trail = those_before (GoodEarlier s.classes) n k e g.trail; rules = g.rules }
 
   command_good : (column : ℕ) (c : Command) (k : Session) → command_is_valid s.classes (length s.text) c ≡ true → GoodSession k
       → EachOfCommand P (in_force s k) limit column c k × IfOk (command_done (in_force s k) limit column c k).outcome GoodSession
@@ -260,6 +295,7 @@ module _ (P : Setting → ℕ → Inst → Course → Type 0) (holds : HoldsNext
         tt,
         record {
           course = record { kept = added_kept k.course.wm k.course.last e (omega arith) g.course.kept; whole = one_more s.classes k.course.wm e g.course.whole (made_whole (in_force s k) class puts k.course (sound_in k g) h) };
+          trail = none_kept (GoodEarlier s.classes) k;
           rules = g.rules;
         },
       )
@@ -270,6 +306,7 @@ module _ (P : Setting → ℕ → Inst → Course → Type 0) (holds : HoldsNext
         kept = kept_after k.course.wm k.course.last (removals k.course.wm tags) g.course.kept (removals_lawful k.course.wm k.course.last tags) (removals_last k.course.wm k.course.last tags);
         whole = done_whole s.classes k.course.wm (removals k.course.wm tags) g.course.whole (removals_make s.classes k.course.wm tags);
       };
+      trail = none_kept (GoodEarlier s.classes) k;
       rules = g.rules;
     },
   )
@@ -280,14 +317,15 @@ module _ (P : Setting → ℕ → Inst → Course → Type 0) (holds : HoldsNext
         kept = kept_after k.course.wm k.course.last (map change.Remove (tags_of k.course.wm)) g.course.kept (clearing_lawful k.course.wm k.course.last g.course.kept.0) (clearing_last k.course.last (tags_of k.course.wm));
         whole = done_whole s.classes k.course.wm (map change.Remove (tags_of k.course.wm)) g.course.whole (clearing_make s.classes (tags_of k.course.wm));
       };
+      trail = none_kept (GoodEarlier s.classes) k;
       rules = g.rules;
     },
   )
   command_good column (command.Run count) k h g =
       let at : Setting = record (in_force s k) { watch = k.watch } in
       let sound_at : IsSound at = record { classes = classes_valid; rules = g.rules } in
-      let r = run_good P holds (limit - k.course.firings) at k.breaks column None count k.course sound_at g.course in
-      (r.0, ok_as (IsGood s.classes) GoodSession (with_course k) (λ e. e) (run_on (limit - k.course.firings) at k.breaks column None count k.course).outcome r.1 (λ m q. record { course = q; rules = g.rules }))
+      let r = run_good P holds k.rules (limit - k.course.firings) at column None count k sound_at (record { good = (g.course, g.trail); same = refl }) in
+      (r.0, ok_more (RunKeeps s.classes k.rules) GoodSession (run_on (limit - k.course.firings) at column None count k).outcome r.1 (λ after q. still_good k g after q))
   command_good column (command.Wm tags) k h g = (tt, g)
   command_good column (command.Ppwm pattern) k h g = (tt, g)
   command_good column command.Cs k h g = (tt, g)
@@ -297,7 +335,8 @@ module _ (P : Setting → ℕ → Inst → Course → Type 0) (holds : HoldsNext
   command_good column (command.Pbreak names) k h g = (tt, breaks_good (in_force s k) column names k g)
   command_good column (command.Add r) k h g = (tt, added_good r k h g)
   command_good column (command.Excise names) k h g = (tt, excised_good names k g)
-  command_good column (command.Back count) k h g = (tt, g)
+  command_good column (command.Back count) k h g =
+      (tt, if_ok GoodSession (λ (e : Ending). Unit {0}) (back_given column count k).outcome (back_leaves GoodSession (λ e. Unit {0}) column count k g (λ n e is. back_good n e k g is)))
   command_good column (command.Matches names) k h g = (tt, g)
   command_good column command.Exit k h g = (tt, g)
 
@@ -340,8 +379,8 @@ session_good : (P : Setting → ℕ → Inst → Course → Type 0) → HoldsNex
     → EachFiring P s limit commands names coming × IfOk (session_of s limit commands names coming).outcome (StillGood s.classes (length s.text))
 session_good P holds s limit commands names coming h =
     let valid = valid_parts s commands h in
-    commands_good P holds s valid.classes limit 0 commands (begun s.rules names coming) valid.commands
-    (record { course = record { kept = (λ k within. absurd (omega arith), All-nil _); whole = λ e m. absurd m }; rules = valid.rules })
+    commands_good P holds s valid.classes limit 0 commands (begun commands s.rules names coming) valid.commands
+    (record { course = record { kept = (λ k within. absurd (omega arith), All-nil _); whole = λ e m. absurd m }; trail = none_yet (GoodEarlier s.classes) (list_any is_back commands); rules = valid.rules })
 
 pub each_firing_finds : (s : Setting) (limit : ℕ) (commands : List Command) (names : Spellings) (coming : Coming) → AreValid s commands → EachFiring FindsAll s limit commands names coming
 each_firing_finds s limit commands names coming h = (session_good FindsAll finds_all s limit commands names coming h).0

@@ -6,7 +6,7 @@ use Rattle.ops_base.specs.declared.rules.Rule.{Rule}
 use Rattle.ops_base.specs.declared.values.Sym.{Sym}
 use Rattle.ops_base.specs.Live.{renumbered}
 use Rattle.ops_base.specs.Valid.{are_distinct}
-use Rattle.ops_meaning.specs.Running.{Session}
+use Rattle.ops_meaning.specs.Running.{Earlier, Session}
 
 -- no two productions have one name
 abbrev pub AreNamedApart : List Rule → Type 0
@@ -41,12 +41,18 @@ left_number goes (r ∷ rules) (suc n) = if goes r then left_number goes rules n
 abbrev pub left_inst : (Rule → Bool) → List Rule → Inst → Option Inst
 left_inst goes rules i = option_map (renumbered i) (left_number goes rules i.rule)
 
--- Those productions are left that do not go, in their order, each with its break and its marks. All else stays.
+-- the trail where one of these productions goes, which empties it, or none does
+abbrev pub trail_left : (Rule → Bool) → List Rule → Option (List Earlier) → Option (List Earlier)
+trail_left goes rules trail = if list_any goes rules then option_map (λ es. []) trail else trail
+
+-- Those productions are left that do not go, in their order, each with its break and its marks. Where one goes the trail
+-- is emptied. All else stays.
 abbrev pub left_by : (Rule → Bool) → Session → Session
 left_by goes k = record k {
   rules = filter (λ r. not (goes r)) k.rules;
   breaks = left_beside goes k.rules k.breaks;
   course = record k.course { fired = filter_map (left_inst goes k.rules) k.course.fired };
+  trail = trail_left goes k.rules k.trail;
 }
 
 -- ---- which names are told

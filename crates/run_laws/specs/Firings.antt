@@ -1,5 +1,5 @@
 -- What holds of each firing of a session.
-use Rattle.std.specs.Prelude.{ℕ, zero, suc, ◌+◌, ◌-◌, List, [], ◌∷◌, Bool, Option, Some, None, IfOk}
+use Rattle.std.specs.Prelude.{ℕ, zero, suc, ◌+◌, ◌-◌, List, [], ◌∷◌, Option, Some, None, IfOk}
 use Rattle.std.specs.Bool.{MatchBool}
 use Rattle.ops_base.specs.declared.actions.Action.{Action}
 use Rattle.ops_base.specs.declared.commands.Command.{Command}
@@ -11,7 +11,7 @@ use Rattle.ops_io.specs.Output.{column_after}
 use Rattle.ops_meaning.specs.Acting.{Setting, ActState, actions_of}
 use Rattle.ops_meaning.specs.Acting as acting
 use Rattle.ops_meaning.specs.Layout.{firing_bytes}
-use Rattle.ops_meaning.specs.Running.{Course, Session, LastFiring, begun, command_done, firing, given_by, in_force, is_exit, last_of, line_of_pause, next_to_fire, one_less}
+use Rattle.ops_meaning.specs.Running.{Course, Session, LastFiring, begun, command_done, fired_on, firing, given_by, in_force, is_exit, last_of, line_of_pause, next_to_fire, one_less}
 use Rattle.run_laws.specs.Beginning.{BeginsAsMatched}
 use Rattle.run_laws.specs.Elements.{AreWhole}
 use Rattle.run_laws.specs.Finding.{AllFind, EachAction}
@@ -24,18 +24,18 @@ IfGoesOn None (Some i) P = P i
 
 -- P holds of each firing of a run from here on: of its setting, of the column at which it begins, of the instantiation
 -- that fires, and of what the session has come to before it.
-abbrev pub EachOfRun : (Setting → ℕ → Inst → Course → Type 0) → ℕ → Setting → List Bool → ℕ → Option LastFiring → Option ℕ → Course → Type 0
-EachOfRun P zero s breaks column last count m = Unit {0}
-EachOfRun P (suc left) s breaks column last count m =
-    IfGoesOn (line_of_pause m.names s.rules breaks last count) (next_to_fire s.rules m)
-    (λ i. let e = firing s column i m in
-    P s column i m
-    × IfOk e.outcome (λ t. EachOfRun P left s breaks (column_after column e.bytes) (last_of i t) (one_less count) t.course))
+abbrev pub EachOfRun : (Setting → ℕ → Inst → Course → Type 0) → ℕ → Setting → ℕ → Option LastFiring → Option ℕ → Session → Type 0
+EachOfRun P zero s column last count k = Unit {0}
+EachOfRun P (suc left) s column last count k =
+    IfGoesOn (line_of_pause k.course.names s.rules k.breaks last count) (next_to_fire s.rules k.course)
+    (λ i. let e = firing s column i k.course in
+    P s column i k.course
+    × IfOk e.outcome (λ t. EachOfRun P left s (column_after column e.bytes) (last_of i t) (one_less count) (fired_on t.course k)))
 
 -- P holds of each firing of a command. Only `run` has any.
 abbrev pub EachOfCommand : (Setting → ℕ → Inst → Course → Type 0) → Setting → ℕ → ℕ → Command → Session → Type 0
 EachOfCommand P s limit column (command.Run count) k =
-    EachOfRun P (limit - k.course.firings) (record s { watch = k.watch }) k.breaks column None count k.course
+    EachOfRun P (limit - k.course.firings) (record s { watch = k.watch }) column None count k
 EachOfCommand P s limit column _ k = Unit {0}
 
 -- P holds of each firing of these commands, up to the first `exit`.
@@ -49,7 +49,7 @@ EachOfCommands P s limit column (c ∷ rest) k =
 
 -- P holds of each firing of a session.
 abbrev pub EachFiring : (Setting → ℕ → Inst → Course → Type 0) → Setting → ℕ → List Command → Spellings → Coming → Type 0
-EachFiring P s limit commands names coming = EachOfCommands P s limit 0 commands (begun s.rules names coming)
+EachFiring P s limit commands names coming = EachOfCommands P s limit 0 commands (begun commands s.rules names coming)
 
 -- the column at which the right side of a firing begins to write, where the firing begins at this one
 abbrev pub column_after_line : Setting → ℕ → Inst → Course → ℕ

@@ -14,3 +14,4 @@ pub mod Predicates
 pub mod Standing
 pub mod Telling
 pub mod Excising
+pub mod Undoing

@@ -1,6 +1,6 @@
 //! What holds of programs by the definitions of running: the contracts of functions that do nothing.
-ghost use Rattle.std.specs.Prelude.{◌≡◌, ℕ, ◌<◌, ◌≤◌, List, [], ◌∷◌, ◌++◌, length, drop, filter, map, not, ◌==◌, slice_get, Some, if◌then◌else◌, Option, None, is_some, Ok, Bool, Contains, IsTrue, IfOk};
-ghost use Rattle.std.specs.List.{filter_map, list_all};
+ghost use Rattle.std.specs.Prelude.{◌≡◌, ℕ, ◌+◌, ◌<◌, ◌≤◌, List, [], ◌∷◌, ◌++◌, length, drop, filter, map, not, ◌==◌, slice_get, Some, if◌then◌else◌, Option, None, is_some, Ok, Bool, Contains, IsTrue, IfOk, true, false};
+ghost use Rattle.std.specs.List.{filter_map, list_all, list_any};
 ghost use Rattle.ops_base.specs.declared.actions.Action.{Action};
 ghost use Rattle.ops_base.specs.declared.actions.Term.{Term};
 ghost use Rattle.ops_base.specs.declared.commands.Command.{Command};
@@ -27,10 +27,10 @@ ghost use Rattle.ops_base.specs.Valid.{is_attribute};
 ghost use Rattle.ops_base.specs.WorkingMemory.{HasRisingTags, tags_of};
 ghost use Rattle.ops_io.specs.Coming.{Coming};
 ghost use Rattle.ops_meaning.specs.Acting.{Setting, Given, ActState, actions_of, action_done, actions_done, begun, evaluated, values_placed};
-ghost use Rattle.ops_meaning.specs.Effects.{writes};
-ghost use Rattle.ops_meaning.specs.Layout.{inst_text, lines_at, unknown_line};
+ghost use Rattle.ops_meaning.specs.Effects.{told_as, writes};
+ghost use Rattle.ops_meaning.specs.Layout.{inst_text, kept_line, lines_at, unknown_line};
 ghost use Rattle.ops_meaning.specs.Partials.{left_side, partial_tags};
-ghost use Rattle.ops_meaning.specs.Running.{Course, Session, added, command_done, element_lines, ending_of, in_force, lists, meets, removals, rule_named, session_of, standing_by, taken_out};
+ghost use Rattle.ops_meaning.specs.Running.{Course, Session, added, command_done, commands_done, element_lines, ending_of, in_force, is_back, lists, meets, removals, rule_named, session_of, standing_by, states_kept, taken_out};
 ghost use Rattle.run_laws.specs.Beginning.{BeginsAsMatched};
 ghost use Rattle.run_laws.specs.Computing.{OperandsAre, QuotientsAre, SumsAre};
 ghost use Rattle.run_laws.specs.Predicates.{EqualityHolds, OrderHolds, KindHolds};
@@ -46,6 +46,7 @@ ghost use Rattle.run_laws.specs.Programs.{AreValid};
 ghost use Rattle.run_laws.specs.Ranking.{HasRank, IsRanking};
 ghost use Rattle.run_laws.specs.Standing.{ranking_in, stands_in};
 ghost use Rattle.run_laws.specs.Telling.{AreTold, told_line};
+ghost use Rattle.run_laws.specs.Undoing.{FireTo, IsUndone, untrailed};
 ghost use Rattle.why.specs.declared.explaining.BoundInst.{BoundInst};
 ghost use Rattle.why.specs.declared.explaining.Why.TheVariants.{Found};
 ghost use Rattle.why.specs.Bindings.{Binds};
@@ -253,4 +254,24 @@ pub fn bindings_are_told()
     ensures lines { (names : Spellings) (classes : List Class) (rules : List Rule) (wm : List Element) (rule : ℕ) (found : List BoundInst)
         → HasRisingTags wm → rule < length rules → explanation rules wm rule ≡ Found found
         → rule_lines names classes rules rule (Found found) ≡ map (told_line names classes rules wm) (insts_in found) }
+{}
+
+/// `back` undoes firings. After up to 32 of them, one after another, it brings back working memory, the marks, the last
+/// tag and the names as they were before, leaves all else, and prints nothing. A run makes such firings. Where fewer are
+/// kept it changes nothing and prints how many are. In a session in which no `back` stands nothing shows the trail.
+pub fn back_undoes_firings()
+    ensures undone { (s t : Setting) (limit column n : ℕ) (k fired : Session)
+        → is_some k.trail ≡ true → 1 ≤ n → n ≤ 32 → FireTo s n k fired
+        → (after : Session) × (command_done t limit column (Command.Back n) fired ≡ writes [] after) × IsUndone k fired after }
+    ensures runs { (s : Setting) (limit column : ℕ) (count : Option ℕ) (k : Session)
+        → IfOk (command_done s limit column (Command.Run count) k).outcome
+        (λ fired. (n : ℕ) × FireTo (record s { watch = k.watch }) n k fired × (fired.course.firings ≡ k.course.firings + n)) }
+    ensures few { (s : Setting) (limit column n : ℕ) (k : Session)
+        → length (states_kept k) < n
+        → command_done s limit column (Command.Back n) k ≡ lists column (kept_line (length (states_kept k)) ∷ []) k }
+    ensures kept { (s : Setting) (limit : ℕ) (commands : List Command) (names : Spellings) (coming : Coming)
+        → IfOk (session_of s limit commands names coming).outcome (λ k. is_some k.trail ≡ list_any is_back commands) }
+    ensures unseen { (s : Setting) (limit column : ℕ) (commands : List Command) (k : Session)
+        → list_any is_back commands ≡ false
+        → commands_done s limit column commands (untrailed k) ≡ told_as untrailed (λ e. e) (commands_done s limit column commands k) }
 {}

@@ -15,15 +15,14 @@ use Rattle.ops_base.specs.Valid.{command_builds_from, command_is_valid}
 use Rattle.ops_io.specs.Coming.{Coming}
 use Rattle.ops_io.specs.Ports.{Port}
 use Rattle.ops_meaning.specs.Acting.{Setting}
-use Rattle.ops_meaning.specs.Running.{Session as Meant, added, in_force, rule_named, taken_out_named, without_named}
+use Rattle.ops_meaning.specs.Running.{Session as Meant, added, excised, in_force, rule_named, taken_out_named, without_named}
 use Rattle.act_phase.specs.Asking.{command_asks, program_asks, rule_asks, session_asks}
 use Rattle.act_phase.specs.Outcomes.{setting_of}
 use Rattle.cycle.specs.States.{no_input}
 use Rattle.live_rules.specs.Moves.{IsWith}
 use Rattle.work_store.specs.Stored.{Stored}
-use Rattle.session.specs.Changing.{Excises}
-use Rattle.session.specs.Courses.{meant_by}
-use Rattle.session.specs.declared.session.Session.{Session}
+use Rattle.session.specs.Trailing.{DoesWith, meant_with}
+use Rattle.session.specs.declared.undoable.Undoable.{Undoable}
 use Rattle.session.proofs.Changing.{taken_rules}
 
 neither : (a b : Bool) → (a || b) ≡ false → (a ≡ false) × (b ≡ false)
@@ -63,18 +62,18 @@ asks_all (x ∷ names) k h = asks_all names (taken_out_named x k) (asks_taken x 
 
 -- ---- commands
 
-module _ {M H : Type 0} (stored : M → Stored) (stands_for : M → List Rule → Type 0) (old new : Program) (s : Session M H) where
+module _ {M H : Type 0} (stored : M → Stored) (stands_for : M → List Rule → Type 0) (old new : Program) (s : Undoable M H) where
   -- another one stands last
-  pub added_quiet : (r : Rule) (t : Session M H) → ((n : Spellings) (z : Coming) → meant_by stored new.rules t n z ≡ added r (meant_by stored old.rules s n z)) → (n : Spellings)
+  pub added_quiet : (r : Rule) (t : Undoable M H) → ((n : Spellings) (z : Coming) → meant_with stored new.rules t n z ≡ added r (meant_with stored old.rules s n z)) → (n : Spellings)
       → program_asks old.rules ≡ false → rule_asks r ≡ false → program_asks new.rules ≡ false
   added_quiet r t is n h quiet =
-      let k = meant_by stored old.rules s n no_input in
+      let k = meant_with stored old.rules s n no_input in
       ap (λ (m : Meant). program_asks m.rules) (is n no_input) ∙ none_with rule_asks (taken_out_named r.name k).rules r (asks_taken r.name k h) quiet
 
   -- some are taken out
-  pub excised_quiet : (X : Type 0) (names : Spellings) (given : List Sym) (r : Result (Session M H) Ending) (a b : Port) → Excises stored stands_for old new names given s r a b → OnOk r (program_asks old.rules ≡ false → X → program_asks new.rules ≡ false)
+  pub excised_quiet : (X : Type 0) (names : Spellings) (given : List Sym) (r : Result (Undoable M H) Ending) (a b : Port) → DoesWith stored stands_for old.rules new.rules names s r a b (excised a.out.column given) → OnOk r (program_asks old.rules ≡ false → X → program_asks new.rules ≡ false)
   excised_quiet X names given (Ok t) a b p = λ h x.
-      let k = meant_by stored old.rules s names no_input in
+      let k = meant_with stored old.rules s names no_input in
       ap program_asks (sym (ap rules_of (p.performs no_input).0)) ∙ asks_all given k h
     where
       rules_of : Result Meant Ending → List Rule

@@ -18,7 +18,7 @@ use Rattle.ops_io.specs.Ports.{Port, Put, Stopped}
 use Rattle.ops_io.specs.declared.stop.Stop.TheVariants as stop
 use Rattle.ops_meaning.specs.Effects.{Effect, Pending, writes, and_then, of_ending}
 use Rattle.ops_meaning.specs.Layout.{lines_at, unknown_line}
-use Rattle.ops_meaning.specs.Running.{Session as Meant, added, excised, left_unknown, rule_named, taken_out, taken_out_named, without_named}
+use Rattle.ops_meaning.specs.Running.{Session as Meant, added, excised, left_unknown, rule_named, taken_out, taken_out_named, trail_emptied, without_named}
 use Rattle.ops_meaning.proofs.EffectLemmas.{fails_short, pending_start, pending_last, pending_step, pending_stop}
 use Rattle.ops_io.proofs.PortLemmas.{put_nothing}
 use Rattle.work_store.specs.Stored.{Stored}
@@ -124,7 +124,7 @@ module _ {M H : Type 0} (stored : M → Stored) (stands_for : M → List Rule �
 
   module _ (r : Rule) (breaks : List Bool) (cut : breaks ≡ without_any number s.breaks ++ false ∷ []) (called : r.name ≡ name) (rules : new.rules ≡ without_named old.rules name ++ r ∷ []) where
     with_last : Meant → Meant
-    with_last k = record k { rules = k.rules ++ r ∷ []; breaks = k.breaks ++ false ∷ [] }
+    with_last k = record (trail_emptied k) { rules = k.rules ++ r ∷ []; breaks = k.breaks ++ false ∷ [] }
 
     pub added_meant : (n : Spellings) (z : Coming) → meant_by stored new.rules (changed breaks) n z ≡ added r (meant_by stored old.rules s n z)
     unfolding with_last

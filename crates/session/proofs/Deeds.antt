@@ -5,15 +5,14 @@ use Rattle.ops_base.specs.declared.endings.Ending.{Ending}
 use Rattle.ops_base.specs.declared.endings.Ending.TheVariants as ending
 use Rattle.ops_base.specs.declared.rules.Rule.{Rule}
 use Rattle.ops_base.specs.Names.{Spellings}
-use Rattle.ops_io.specs.Coming.{Coming, Inlet}
+use Rattle.ops_io.specs.Coming.{Coming}
 use Rattle.ops_io.specs.Ports.{Port, Put, Stopped}
 use Rattle.ops_io.specs.declared.stop.Stop.TheVariants as stop
 use Rattle.ops_meaning.specs.Acting.{Setting}
-use Rattle.ops_meaning.specs.Effects.{Effect, writes, Fails, Performs, PerformsOn, of_ending}
+use Rattle.ops_meaning.specs.Effects.{Effect, writes, Fails, Performs, of_ending}
 use Rattle.ops_meaning.specs.Layout.{lines_at}
 use Rattle.ops_meaning.specs.Running.{Session as Meant, command_done, lists}
 use Rattle.ops_meaning.proofs.EffectLemmas.{fails_short, fails_behind}
-use Rattle.ops_meaning.proofs.InletLemmas.{performs_apart}
 use Rattle.work_store.specs.Stored.{Stored}
 use Rattle.session.specs.Courses.{IsUnderWay, meant_by, ends_unread}
 use Rattle.session.specs.Deeds.{Does}
@@ -96,10 +95,15 @@ module _ {M H : Type 0} (stored : M → Stored) (stands_for : M → List Rule �
 
 -- ---- commands
 
--- a command is done that reads no input
-pub commanded : {M H : Type 0} (stored : M → Stored) (stands_for : M → List Rule → Type 0) (rules : List Rule) (names : Spellings) (at : Setting) (limit : ℕ) (c x : Command) (s : Session M H) (r : Result (Session M H) Ending) (i : Inlet) (a b : Port) → c ≡ x
-    → Does stored stands_for rules names s r a b (λ k. command_done at limit a.out.column x k) → PerformsOn (λ t z. meant_by stored rules t names z) of_ending r i i a b (λ z. command_done at limit a.out.column c (meant_by stored rules s names z))
-commanded stored stands_for rules names at limit c x s r i a b is p =
-    performs_apart (λ t z. meant_by stored rules t names z) of_ending r i a b (λ z. command_done at limit a.out.column c (meant_by stored rules s names z))
-    (λ z. let P : Command → Type 0 = λ c. Performs (λ t. meant_by stored rules t names z) of_ending r a b (command_done at limit a.out.column c (meant_by stored rules s names z)) in
-    subst P (sym is) (p.performs z))
+-- the same of a command that is this one
+pub does_command : {M H : Type 0} (stored : M → Stored) (stands_for : M → List Rule → Type 0) (rules : List Rule) (names : Spellings) (at : Setting) (limit : ℕ) (c x : Command) (s : Session M H) (r : Result (Session M H) Ending) (a b : Port) → c ≡ x
+    → Does stored stands_for rules names s r a b (λ k. command_done at limit a.out.column x k) → Does stored stands_for rules names s r a b (λ k. command_done at limit a.out.column c k)
+does_command stored stands_for rules names at limit c x s r a b is p =
+    subst (λ d. Does stored stands_for rules names s r a b (λ k. command_done at limit a.out.column d k)) (sym is) p
+
+-- the same of one that empties a trail, as there is none here
+pub does_phase : {M H : Type 0} (stored : M → Stored) (stands_for : M → List Rule → Type 0) (rules : List Rule) (names : Spellings) (at : Setting) (limit : ℕ) (c x : Command) (s : Session M H) (r : Result (Session M H) Ending) (a b : Port) (e : Deed) → c ≡ x
+    → Does stored stands_for rules names s r a b e → ((z : Coming) → e (meant_by stored rules s names z) ≡ command_done at limit a.out.column x (meant_by stored rules s names z)) → Does stored stands_for rules names s r a b (λ k. command_done at limit a.out.column c k)
+does_phase stored stands_for rules names at limit c x s r a b e is p same =
+    does_command stored stands_for rules names at limit c x s r a b is
+    (does_as stored stands_for rules names s s r a b e (λ k. command_done at limit a.out.column x k) (λ z. refl) same p)

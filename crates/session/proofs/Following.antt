@@ -35,7 +35,7 @@ module _ {M H : Type 0} (stored : M → Stored) (stands_for : M → List Rule �
 
     pub followed_meant : (n : Spellings) (z : Coming) → meant_by stored rules followed n z ≡ meant_by stored rules s n z
     followed_meant n z =
-        let by : Course → Meant = λ m. record { course = m; rules = rules; watch = s.watch; breaks = s.breaks } in
+        let by : Course → Meant = λ m. record { course = m; rules = rules; watch = s.watch; breaks = s.breaks; trail = None } in
         ap by
         (ap (with_pending s.pending) (course n z)
         ∙ ap (λ o. with_pending s.pending (with_moved o (state_course stored s.state n z))) (sym is))
@@ -107,7 +107,7 @@ module _ {M H : Type 0} (stored : M → Stored) (stands_for : M → List Rule �
   pub numbered_meant : (n : Spellings) (z : Coming) → meant_by stored rules numbered n z ≡ meant_by stored rules s n z
   numbered_meant n z =
       let st = state_course stored s.state n z in
-      let by : List Inst → Meant = λ fired. record { course = with_pending s.pending (record st { fired = fired }); rules = rules; watch = s.watch; breaks = s.breaks } in
+      let by : List Inst → Meant = λ fired. record { course = with_pending s.pending (record st { fired = fired }); rules = rules; watch = s.watch; breaks = s.breaks; trail = None } in
       ap by (ap (λ ps. marks_moved (Some ps) st.fired) first ∙ first_marks s.moved (length rules) st.fired within)
 
   pub numbered_under_way : IsUnderWay stored stands_for rules numbered

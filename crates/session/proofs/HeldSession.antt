@@ -1,7 +1,7 @@
 -- What a session makes is held by its names, as what its right sides make is.
 use Rattle.std.proofs.Common.{◌≡◌, ℕ, zero, suc, ◌+◌, ◌-◌, ◌<◌, ◌≤◌, List, [], ◌∷◌, ◌++◌, length, map, fold, Bool, true, ◌&&◌, Option, Some, None, MatchResult, refl, arith}
-use Rattle.std.specs.Prelude.{slice_set, option_map, unwrap_or, Result, Ok, Err, IfOk}
-use Rattle.std.specs.List.{list_all}
+use Rattle.std.specs.Prelude.{slice_get, slice_set, option_map, unwrap_or, Result, Ok, Err, IfOk}
+use Rattle.std.specs.List.{list_all, list_any}
 use Rattle.std.proofs.lemmas.Bool.{and_parts, and_from, cond_both}
 use Rattle.ops_base.specs.declared.commands.Command.{Command}
 use Rattle.ops_base.specs.declared.commands.Command.TheVariants as command
@@ -25,7 +25,8 @@ use Rattle.ops_io.specs.Output.{column_after}
 use Rattle.ops_meaning.specs.Acting.{Setting, acted, emptied, first_of, has_tag}
 use Rattle.ops_meaning.specs.Effects.{Effect, writes, and_then}
 use Rattle.ops_meaning.specs.Layout.{firing_bytes, rule_name}
-use Rattle.ops_meaning.specs.Running.{Course, Turned, Session, LastFiring, begun, turn, line_of_pause, last_of, one_less, given_by, ended_in, with_course, with_values, fixed_fields, element_made, removals, turned_of, firing, run_on, next_to_fire, command_done, commands_done, in_force, rule_named, taken_out, taken_out_named, added, is_exit, strategy_given, level_given, breaks_given, session_of}
+use Rattle.ops_meaning.specs.Running.{Course, Turned, Session, LastFiring, begun, turn, line_of_pause, last_of, one_less, given_by, ended_in, with_values, fixed_fields, element_made, removals, turned_of, firing, run_on, next_to_fire, command_done, commands_done, in_force, rule_named, taken_out, taken_out_named, added, is_exit, strategy_given, level_given, breaks_given, session_of, Earlier, earlier, fired_on, is_back, restored, states_kept}
+use Rattle.ops_meaning.proofs.Trails.{AreKept, back_leaves, firing_kept_too, is_kept, none_kept, none_yet, those_before}
 use Rattle.ops_meaning.proofs.Doings.{goes_on, goes_as, ok_goes}
 use Rattle.act_phase.specs.Held.{element_held, change_held, HoldsProgram, HoldsElements}
 use Rattle.act_phase.specs.Outcomes.{setting_of}
@@ -79,9 +80,13 @@ module _ (n : ℕ) (some : 0 < n) where
   abbrev HeldTurned : Turned → Type 0
   HeldTurned t = Held t.course
 
-  -- and each of the productions in force
+  -- the same of what was before a firing
+  abbrev HeldEarlier : Earlier → Type 0
+  HeldEarlier e = (n ≤ length e.names.held) × (list_all (element_held (length e.names.held)) e.wm ≡ true)
+
+  -- each of the productions in force, and each state on the trail
   abbrev HeldSession : Session → Type 0
-  HeldSession k = Held k.course × (list_all (rule_held n) k.rules ≡ true)
+  HeldSession k = Held k.course × (list_all (rule_held n) k.rules ≡ true) × AreKept HeldEarlier k
 
   firing_held : (s : Setting) (column : ℕ) (i : Inst) (m : Course) → list_all (rule_held n) s.rules ≡ true → Held m → MatchResult (firing s column i m).outcome HeldTurned Any
   firing_held s column i m h p =
@@ -96,25 +101,33 @@ module _ (n : ℕ) (some : 0 < n) where
       (λ e q. tt)
 
   -- what every turn leaves of a run whose end it does not come to
-  turn_leaves : (column : ℕ) (line : Option (List ℕ)) (m : Course) (next : Option Inst) (go_on : Inst → Effect Ending Course) → Held m
-      → ((i : Inst) → MatchResult (go_on i).outcome Held Any) → MatchResult (turn column line m next go_on).outcome Held Any
-  turn_leaves column (Some line) m next go_on p q = p
-  turn_leaves column None m None go_on p q = p
-  turn_leaves column None m (Some i) go_on p q = q i
+  turn_leaves : (column : ℕ) (line : Option (List ℕ)) (k : Session) (next : Option Inst) (go_on : Inst → Effect Ending Session) → HeldSession k
+      → ((i : Inst) → MatchResult (go_on i).outcome HeldSession Any) → MatchResult (turn column line k next go_on).outcome HeldSession Any
+  turn_leaves column (Some line) k next go_on p q = p
+  turn_leaves column None k None go_on p q = p
+  turn_leaves column None k (Some i) go_on p q = q i
 
-  run_held : (left : ℕ) (s : Setting) (breaks : List Bool) (column : ℕ) (last : Option LastFiring) (count : Option ℕ) (m : Course) → list_all (rule_held n) s.rules ≡ true → Held m
-      → MatchResult (run_on left s breaks column last count m).outcome Held Any
-  run_held zero s breaks column last count m h p =
-      turn_leaves column (line_of_pause m.names s.rules breaks last count) m (next_to_fire s.rules m) _ p (λ i. tt)
-  run_held (suc left) s breaks column last count m h p =
-      turn_leaves column (line_of_pause m.names s.rules breaks last count) m (next_to_fire s.rules m) _ p
-      (λ i. let e = firing s column i m in
-      goes_on HeldTurned Held Any e.bytes e.outcome (λ t. run_on left s breaks (column_after column e.bytes) (last_of i t) (one_less count) t.course) (firing_held s column i m h p)
-      (λ t q. run_held left s breaks (column_after column e.bytes) (last_of i t) (one_less count) t.course h q))
+  fired_held : (m : Course) (k : Session) → HeldSession k → Held m → HeldSession (fired_on m k)
+  fired_held m k p q = (q, p.1, firing_kept_too HeldEarlier m k (p.0.more, p.0.memory) p.2)
+
+  run_held : (left : ℕ) (s : Setting) (column : ℕ) (last : Option LastFiring) (count : Option ℕ) (k : Session) → list_all (rule_held n) s.rules ≡ true → HeldSession k
+      → MatchResult (run_on left s column last count k).outcome HeldSession Any
+  run_held zero s column last count k h p =
+      turn_leaves column (line_of_pause k.course.names s.rules k.breaks last count) k (next_to_fire s.rules k.course) _ p (λ i. tt)
+  run_held (suc left) s column last count k h p =
+      turn_leaves column (line_of_pause k.course.names s.rules k.breaks last count) k (next_to_fire s.rules k.course) _ p
+      (λ i. let e = firing s column i k.course in
+      goes_on HeldTurned HeldSession Any e.bytes e.outcome (λ t. run_on left s (column_after column e.bytes) (last_of i t) (one_less count) (fired_on t.course k)) (firing_held s column i k.course h p.0)
+      (λ t q. run_held left s (column_after column e.bytes) (last_of i t) (one_less count) (fired_on t.course k) h (fired_held t.course k p q)))
+
+  back_held : (at : ℕ) (e : Earlier) (k : Session) → HeldSession k → slice_get (states_kept k) at ≡ Some e → HeldSession (restored at k e)
+  back_held at e k p is =
+      let was : HeldEarlier e = is_kept HeldEarlier k at e p.2 is in
+      (record { more = was.0; memory = was.1 }, p.1, those_before HeldEarlier at k e p.2)
 
   strategy_held : (column : ℕ) (set : Option Strategy) (k : Session) → HeldSession k → MatchResult (strategy_given column set k).outcome HeldSession Any
   strategy_held column None k p = p
-  strategy_held column (Some g) k p = (record { more = p.0.more; memory = p.0.memory }, p.1)
+  strategy_held column (Some g) k p = (record { more = p.0.more; memory = p.0.memory }, p.1, p.2)
 
   level_held : (column : ℕ) (set : Option ℕ) (k : Session) → HeldSession k → MatchResult (level_given column set k).outcome HeldSession Any
   level_held column None k p = p
@@ -125,7 +138,7 @@ module _ (n : ℕ) (some : 0 < n) where
   breaks_held s column (x ∷ xs) k p = p
 
   taken_held : (at : ℕ) (k : Session) → HeldSession k → HeldSession (taken_out at k)
-  taken_held at k p = (record { more = p.0.more; memory = p.0.memory }, all_without (rule_held n) at k.rules p.1)
+  taken_held at k p = (record { more = p.0.more; memory = p.0.memory }, all_without (rule_held n) at k.rules p.1, none_kept HeldEarlier k)
 
   named_held : (name : Sym) (k : Session) → HeldSession k → HeldSession (taken_out_named name k)
   named_held name k p = by (rule_named k.rules name)
@@ -136,7 +149,7 @@ module _ (n : ℕ) (some : 0 < n) where
 
   added_held : (r : Rule) (k : Session) → rule_held n r ≡ true → HeldSession k → HeldSession (added r k)
   added_held r k h p =
-      let left = named_held r.name k p in (left.0, all_push (rule_held n) (taken_out_named r.name k).rules r left.1 h)
+      let left = named_held r.name k p in (left.0, all_push (rule_held n) (taken_out_named r.name k).rules r left.1 h, none_kept HeldEarlier (taken_out_named r.name k))
 
   excised_held : (given : List Sym) (k : Session) → HeldSession k → HeldSession (fold (λ k name. taken_out_named name k) k given)
   excised_held [] k p = p
@@ -151,17 +164,16 @@ module _ (n : ℕ) (some : 0 < n) where
           memory = done_held now k.course.wm (change.Add made ∷ []) p.0.memory (and_from _ _ (fixed_fields_held now (omega (arith, some, p.0.more)) (class_of s.classes class) puts (command_more n now p.0.more (command.Make class puts) e)) refl);
         },
         p.1,
+        none_kept HeldEarlier k,
       )
   command_kept s limit column (command.Remove tags) k e p =
       let now = length k.course.names.held in
-      (record { more = p.0.more; memory = done_held now k.course.wm (removals k.course.wm tags) p.0.memory (removals_held now k.course.wm tags) }, p.1)
+      (record { more = p.0.more; memory = done_held now k.course.wm (removals k.course.wm tags) p.0.memory (removals_held now k.course.wm tags) }, p.1, none_kept HeldEarlier k)
   command_kept s limit column command.RemoveAll k e p =
       let now = length k.course.names.held in
-      (record { more = p.0.more; memory = done_held now k.course.wm (map change.Remove (tags_of k.course.wm)) p.0.memory (clearing_held now (tags_of k.course.wm)) }, p.1)
+      (record { more = p.0.more; memory = done_held now k.course.wm (map change.Remove (tags_of k.course.wm)) p.0.memory (clearing_held now (tags_of k.course.wm)) }, p.1, none_kept HeldEarlier k)
   command_kept s limit column (command.Run count) k e p =
-      let at : Setting = record (in_force s k) { watch = k.watch } in
-      let left = limit - k.course.firings in
-      goes_as Held HeldSession Any Any (with_course k) (λ e. e) (run_on left at k.breaks column None count k.course).outcome (run_held left at k.breaks column None count k.course p.1 p.0) (λ m q. (q, p.1)) (λ e q. q)
+      run_held (limit - k.course.firings) (record (in_force s k) { watch = k.watch }) column None count k p.1 p
   command_kept s limit column (command.Wm tags) k e p = p
   command_kept s limit column (command.Ppwm pattern) k e p = p
   command_kept s limit column command.Cs k e p = p
@@ -171,7 +183,7 @@ module _ (n : ℕ) (some : 0 < n) where
   command_kept s limit column (command.Pbreak names) k e p = breaks_held (in_force s k) column names k p
   command_kept s limit column (command.Add r) k e p = added_held r k e p
   command_kept s limit column (command.Excise given) k e p = excised_held given k p
-  command_kept s limit column (command.Back count) k e p = p
+  command_kept s limit column (command.Back count) k e p = back_leaves HeldSession Any column count k p (λ at state is. back_held at state k p is)
   command_kept s limit column (command.Matches names) k e p = p
   command_kept s limit column command.Exit k e p = p
 
@@ -214,7 +226,7 @@ session_held p limit names h coming =
     let o = (session_of (setting_of p 0) limit p.commands names coming).outcome in
     both_ends (λ k. HoldsProgram k.course.names p × HoldsElements k.course.names k.course.wm) Anything (IsToldBy n) (NamesHeld names) o
     (ok_goes (HeldSession n h.nil) (λ k. HoldsProgram k.course.names p × HoldsElements k.course.names k.course.wm) Any o
-    (commands_kept n h.nil (setting_of p 0) limit 0 p.commands (begun p.rules names coming) whole.1 (record { more = omega arith; memory = refl }, rules_of_program n p h.symbols))
+    (commands_kept n h.nil (setting_of p 0) limit 0 p.commands (begun p.commands p.rules names coming) whole.1 (record { more = omega arith; memory = refl }, rules_of_program n p h.symbols, none_yet (HeldEarlier n h.nil) (list_any is_back p.commands)))
     (λ k q. let now = length k.course.names.held in
     (record { nil = omega (arith, h.nil, q.0.more); symbols = program_more n now q.0.more p.classes p.rules p.templates p.commands h.symbols }, q.0.memory)))
     (any_goes _ _ o (session_told n h.nil (setting_of p 0) limit p.commands names coming (rules_of_program n p h.symbols) whole.1)) (λ k q. q) (told_held names)

@@ -13,6 +13,14 @@ pub mod Listed
 pub mod Standing
 pub mod Pending
 pub mod UnderWay
+pub mod Points
+pub mod Trailed
+pub mod Excised
+pub mod Backs
+pub mod Undone
+pub mod Plain
+pub mod Firings
+pub mod Beginnings
 pub mod Phases
 pub mod Deeds
 pub mod RunLemmas

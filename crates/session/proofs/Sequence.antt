@@ -80,20 +80,20 @@ module _ {i j : Inlet} {a b : Port} {whole : Coming → Effect Ending Meant} (s 
 -- ---- a whole session
 
 -- it does all commands from nothing
-pub session_is : (s : Setting) (limit column : ℕ) (commands : List Command) (names : Spellings) (k : Coming → Meant) → column ≡ 0 → ((z : Coming) → k z ≡ begun s.rules names z)
+pub session_is : (s : Setting) (limit column : ℕ) (commands : List Command) (names : Spellings) (k : Coming → Meant) → column ≡ 0 → ((z : Coming) → k z ≡ begun commands s.rules names z)
     → (z : Coming) → commands_done s limit column commands (k z) ≡ session_of s limit commands names z
 session_is s limit column commands names k zero is z =
     ap (λ n. commands_done s limit n commands (k z)) zero ∙ ap (commands_done s limit 0 commands) (is z)
 
 -- so it does once its commands are taken from its program
-pub session_taken : (old now : Program) (limit column : ℕ) (commands : List Command) (names : Spellings) (k : Coming → Meant) → IsWith old.rules [] old now → commands ≡ old.commands → column ≡ 0 → ((z : Coming) → k z ≡ begun now.rules names z)
+pub session_taken : (old now : Program) (limit column : ℕ) (commands : List Command) (names : Spellings) (k : Coming → Meant) → IsWith old.rules [] old now → commands ≡ old.commands → column ≡ 0 → ((z : Coming) → k z ≡ begun commands now.rules names z)
     → (z : Coming) → commands_done (setting_of now 0) limit column commands (k z) ≡ session_of (setting_of old 0) limit old.commands names z
 session_taken old now limit column commands names k w all zero is z =
     let by : List Class → List ℕ → List Rule → Setting = λ cs t rs. record { classes = cs; rules = rs; text = t; watch = 0 } in
     ap (λ s. commands_done s limit column commands (k z))
     (ap (λ cs. by cs now.text now.rules) w.classes ∙ ap (λ t. by old.classes t now.rules) w.text ∙ ap (by old.classes old.text) w.rules_are)
     ∙ ap (λ cs. commands_done (setting_of old 0) limit column cs (k z)) all
-    ∙ session_is (setting_of old 0) limit column old.commands names k zero (λ z. is z ∙ ap (λ rs. begun rs names z) w.rules_are) z
+    ∙ session_is (setting_of old 0) limit column old.commands names k zero (λ z. is z ∙ ap (λ rs. begun commands rs names z) w.rules_are ∙ ap (λ cs. begun cs old.rules names z) all) z
 
 -- Memory ran out after all its commands.
 pub short_at_end : {X Y : Type 0} (view : X → Coming → Meant) (seen : Y → Coming → Meant) (f : Ending) → f ≡ ending.OutOfMemory → (x : X) (i j : Inlet) (a b : Port) (e whole : Coming → Effect Ending Meant) → ((z : Coming) → e z ≡ whole z) → j.faults ≡ i.faults

@@ -11,14 +11,15 @@ use Rattle.ops_meaning.specs.Running.{Session as Meant, ending_of}
 use Rattle.ops_base.specs.declared.rules.Rule.{Rule}
 use Rattle.ops_base.specs.WorkingMemory.{done, last_after}
 use Rattle.work_store.specs.Stored.{Stored}
-use Rattle.session.specs.Courses.{meant_by, ended, ends_unread}
+use Rattle.session.specs.Courses.{ends_unread}
+use Rattle.session.specs.Trailing.{ended, meant_with}
 use Rattle.session.specs.Endings.{Leaves, EndsSession, EndsOn, CountsReadFault}
-use Rattle.session.specs.declared.session.Session.{Session}
+use Rattle.session.specs.declared.undoable.Undoable.{Undoable}
 use Rattle.session.proofs.Comings.{some_failing}
 use Rattle.session.proofs.Early.{EndsEarly}
 
 module _ {M : Type 0} (H : Type 0) (stored : M → Stored) (rules : List Rule) where
-  abbrev told : Result (Session M H) Ending → Result Ending Stop
+  abbrev told : Result (Undoable M H) Ending → Result Ending Stop
   told r = ended stored r
 
   module _ (new : Spellings) (z : Coming) where
@@ -35,19 +36,19 @@ module _ {M : Type 0} (H : Type 0) (stored : M → Stored) (rules : List Rule) w
     ended_fails (ending.Limit f) a b e p = ends_so (ending.Limit f) a b e p
     ended_fails ending.ReadFault a b e p = ends_so ending.ReadFault a b e p
 
-    ended_performs : (r : Result (Session M H) Ending) (a b : Port) (e : Effect Ending Meant) → IfOk r (λ s. s.pending ≡ []) → Performs (λ s. meant_by stored rules s new z) of_ending r a b e → EndsSession (told r) a b new z e
-    ended_performs (Ok s) a b e none p =
+    ended_performs : (r : Result (Undoable M H) Ending) (a b : Port) (e : Effect Ending Meant) → IfOk r (λ u. u.session.pending ≡ []) → Performs (λ u. meant_with stored rules u new z) of_ending r a b e → EndsSession (told r) a b new z e
+    ended_performs (Ok u) a b e none p =
         let P : Result Meant Ending → Type 0 = λ o. Leaves o new z in
-        (ap (λ changes. ending.Done s.state.firings (length (done (stored s.state.matcher).elements changes)) (last_after (stored s.state.matcher).last changes)) (sym none) ∙ ap ending_of (sym p.0), p.1, subst P (sym p.0) (refl, refl))
+        (ap (λ changes. ending.Done u.session.state.firings (length (done (stored u.session.state.matcher).elements changes)) (last_after (stored u.session.state.matcher).last changes)) (sym none) ∙ ap ending_of (sym p.0), p.1, subst P (sym p.0) (refl, refl))
     ended_performs (Err f) a b e none p = ended_fails f a b e p
 
   -- the session ends so, whatever may come
-  pub ends_on : (new : Spellings) (r : Result (Session M H) Ending) (i j : Inlet) (a b : Port) (e : Coming → Effect Ending Meant) → IfOk r (λ s. s.pending ≡ []) → PerformsOn (λ s z. meant_by stored rules s new z) of_ending r i j a b e → EndsOn (told r) i j a b new e
+  pub ends_on : (new : Spellings) (r : Result (Undoable M H) Ending) (i j : Inlet) (a b : Port) (e : Coming → Effect Ending Meant) → IfOk r (λ u. u.session.pending ≡ []) → PerformsOn (λ u z. meant_with stored rules u new z) of_ending r i j a b e → EndsOn (told r) i j a b new e
   ends_on new r i j a b e none p =
       record { taken = p.taken; took = p.took; ends = λ z h. ended_performs new z r a b (e (preceded_by p.taken z)) none (p.performs z h) }
 
   -- the reads that failed
-  pub ended_reads : (r : Result (Session M H) Ending) (before now : ℕ) → CountsReads (ends_unread r) before now → CountsReadFault (told r) before now
+  pub ended_reads : (r : Result (Undoable M H) Ending) (before now : ℕ) → CountsReads (ends_unread r) before now → CountsReadFault (told r) before now
   ended_reads (Ok s) before now p = p
   ended_reads (Err ending.WriteFault) before now p = p
   ended_reads (Err ending.OutOfMemory) before now p = p
@@ -57,7 +58,7 @@ module _ {M : Type 0} (H : Type 0) (stored : M → Stored) (rules : List Rule) w
   ended_reads (Err ending.ReadFault) before now p = p
 
   -- it is told as unread only where the input failed
-  pub ended_unread : (r : Result (Session M H) Ending) → told r ≡ Ok ending.ReadFault → ends_unread r ≡ true
+  pub ended_unread : (r : Result (Undoable M H) Ending) → told r ≡ Ok ending.ReadFault → ends_unread r ≡ true
   ended_unread (Ok s) e = cc
   ended_unread (Err ending.WriteFault) e = cc
   ended_unread (Err ending.OutOfMemory) e = cc
@@ -67,8 +68,8 @@ module _ {M : Type 0} (H : Type 0) (stored : M → Stored) (rules : List Rule) w
   ended_unread (Err ending.ReadFault) e = refl
 
   -- it is told as done only where its commands came to their end
-  pub ended_done : (new : Spellings) (r : Result (Session M H) Ending) (i j : Inlet) (a b : Port) (e : Coming → Effect Ending Meant) (P : Type 0) (f n t : ℕ) → ((z : Coming) → EndsEarly (e z).outcome)
-      → PerformsOn (λ s z. meant_by stored rules s new z) of_ending r i j a b e → OnOk r P → told r ≡ Ok (ending.Done f n t) → P
+  pub ended_done : (new : Spellings) (r : Result (Undoable M H) Ending) (i j : Inlet) (a b : Port) (e : Coming → Effect Ending Meant) (P : Type 0) (f n t : ℕ) → ((z : Coming) → EndsEarly (e z).outcome)
+      → PerformsOn (λ u z. meant_with stored rules u new z) of_ending r i j a b e → OnOk r P → told r ≡ Ok (ending.Done f n t) → P
   ended_done new (Ok s) i j a b e P f n t early p h is = h
   ended_done new (Err ending.WriteFault) i j a b e P f n t early p h is = absurd (let no = is in cc)
   ended_done new (Err ending.OutOfMemory) i j a b e P f n t early p h is = absurd (let no = is in cc)

@@ -37,9 +37,9 @@ not_ran false waiting none some = refl
 
 -- a session begins with nothing
 pub started_is : {M : Type 0} (H : Type 0) (stored : M → Stored) (h : Held M) (waiting : List Change) (breaks : List Bool) (rules : List Rule) (n : Spellings) (z : Coming) → waiting ≡ [] → state_course stored h n z ≡ nothing_yet n z → breaks ≡ replicate (length rules) false
-    → (let s : Session M H = record { state = h; pending = waiting; last_tag = 0; ran = false; watch = 0; breaks = breaks; moved = None } in meant_by stored rules s n z ≡ begun rules n z)
+    → (let s : Session M H = record { state = h; pending = waiting; last_tag = 0; ran = false; watch = 0; breaks = breaks; moved = None } in meant_by stored rules s n z ≡ begun [] rules n z)
 started_is H stored h waiting breaks rules n z none course unbroken =
-    let by : Course → List Bool → Meant = λ m bs. record { course = m; rules = rules; watch = 0; breaks = bs } in
+    let by : Course → List Bool → Meant = λ m bs. record { course = m; rules = rules; watch = 0; breaks = bs; trail = None } in
     ap (λ m. by m breaks) (ap (λ changes. with_pending changes (state_course stored h n z)) none ∙ course)
     ∙ ap (by (nothing_yet n z)) (unbroken ∙ none_broken rules)
 
@@ -66,7 +66,7 @@ module _ {M H : Type 0} (stored : M → Stored) where
   module _ (stands_for : M → List Rule → Type 0) (rules : List Rule) (s : Session M H) (p : IsUnderWay stored stands_for rules s) where
     -- it has come to a course, with its productions, its trace level and its breaks
     abbrev come_to : Course → Meant
-    come_to m = record { course = m; rules = rules; watch = s.watch; breaks = s.breaks }
+    come_to m = record { course = m; rules = rules; watch = s.watch; breaks = s.breaks; trail = None }
 
     abbrev pub Phase : Held M → List Change → Type 0
     Phase h changes =

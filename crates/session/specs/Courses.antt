@@ -38,10 +38,10 @@ with_moved moved m = record m { fired = marks_moved moved m.fired }
 abbrev pub course_of : {M H : Type 0} → (M → Stored) → Session M H → Spellings → Coming → Course
 course_of stored s names coming = with_pending s.pending (with_moved s.moved (state_course stored s.state names coming))
 
--- the same with the productions in force, which are these, with its trace level and its breaks
+-- the same with the productions in force, which are these, with its trace level and its breaks, and without a trail
 abbrev pub meant_by : {M H : Type 0} → (M → Stored) → List Rule → Session M H → Spellings → Coming → Meant
 meant_by stored rules s names coming =
-    record { course = course_of stored s names coming; rules = rules; watch = s.watch; breaks = s.breaks }
+    record { course = course_of stored s names coming; rules = rules; watch = s.watch; breaks = s.breaks; trail = None }
 
 -- The matcher of a state stands for the program of these rules, and its index keeps their specificities.
 pub record IsOf {M : Type 0} (stands_for : M → List Rule → Type 0) (rules : List Rule) (s : Held M) : Type 0 where
@@ -75,13 +75,6 @@ standing_in rules x = let insts = unfired (insts_of x.members) (fired_of x.membe
 abbrev pub ends_unread : {X : Type 0} → Result X Ending → Bool
 ends_unread (Err ending.ReadFault) = true
 ends_unread _ = false
-
--- the ending of a session that is known, or why none is
-abbrev pub ended : {M H : Type 0} → (M → Stored) → Result (Session M H) Ending → Result Ending Stop
-ended stored (Ok s) = Ok (ending.Done s.state.firings (length (stored s.state.matcher).elements) (stored s.state.matcher).last)
-ended stored (Err ending.WriteFault) = Err stop.Write
-ended stored (Err ending.OutOfMemory) = Err stop.OutOfMemory
-ended stored (Err f) = Ok f
 
 -- What a command asks of a session before it is done: that nothing waits where it looks at working memory, and that the
 -- state is of the productions in force where it looks at the conflict set.

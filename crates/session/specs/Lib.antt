@@ -5,3 +5,4 @@ pub mod Endings
 pub mod Holding
 pub mod Pauses
 pub mod Traces
+pub mod Trailing

@@ -16,12 +16,15 @@ mod elements;
 mod lists;
 mod memory_commands;
 mod partials;
+mod plain_commands;
 mod productions;
 mod ready;
 mod runs;
 mod session;
 mod settings;
 mod traces;
+mod undoable;
+mod undoing;
 mod whole;
 
 pub use context::SessionContext;

@@ -69,7 +69,7 @@ fn follow<B: Maker, H: Fn(B::M, &[Change]) -> Result<Settled<B::M>, OutOfMemory>
 }
 
 /// The state follows the productions in force, and nothing waits.
-fn settle_all<B: Maker, H: Fn(B::M, &[Change]) -> Result<Settled<B::M>, OutOfMemory>, A>(
+pub(crate) fn settle_all<B: Maker, H: Fn(B::M, &[Change]) -> Result<Settled<B::M>, OutOfMemory>, A>(
     context: &RunContext<'_, H, A>,
     maker: &B,
     session: Session<B::M>,

@@ -1,25 +1,29 @@
 //! A run: one firing after another, until it ends.
-ghost use Rattle.std.specs.Prelude.{◌≡◌, ◌^◌, ◌<◌, ◌-◌, [], ◌⊎◌, true, IsTrue, IsOk, IfOk, Some, None, option_map, false};
+ghost use Rattle.std.specs.Prelude.{◌≡◌, ℕ, ◌^◌, ◌<◌, ◌-◌, [], ◌⊎◌, true, IsTrue, IsOk, IfOk, Some, None, option_map, false};
 ghost use Rattle.ops_base.specs.Names.{Spellings};
 ghost use Rattle.ops_base.specs.declared.rules.Inst.{Inst};
-ghost use Rattle.ops_io.specs.Coming.{inlet};
+ghost use Rattle.ops_base.specs.WorkingMemory.{Lawful};
+ghost use Rattle.ops_io.specs.Coming.{Coming, inlet};
 ghost use Rattle.ops_io.specs.Ports.{port, FlushesAll, PutsBytes};
 ghost use Rattle.ops_meaning.specs.Effects.{PerformsOn, CountsReads, failure_as, of_ending};
 ghost use Rattle.ops_meaning.specs.Kept.{KeepsNames};
 ghost use Rattle.ops_meaning.specs.Layout.{line_at};
-ghost use Rattle.ops_meaning.specs.Running.{ended_in, firing, has_break, line_of_count, line_of_pause, next_to_fire, one_less, run_on};
+ghost use Rattle.ops_meaning.specs.Running.{ended_in, fired_on, firing, has_break, line_of_count, line_of_pause, next_to_fire, one_less, run_on};
 ghost use Rattle.act_phase.specs.Asking.{program_asks};
 ghost use Rattle.act_phase.specs.Outcomes.{failure_of, setting_of};
 ghost use Rattle.cycle.specs.Settles.{Settles};
+ghost use Rattle.cycle.specs.Standing.{after_firing, standing};
 ghost use Rattle.cycle.specs.States.{alone, state_course};
 ghost use Rattle.session.specs.Courses.{IsOf, ends_unread};
 ghost use Rattle.session.specs.Pauses.{meant_last, pause_line};
+ghost use Rattle.session.specs.Trailing.{IsNamedFrom, IsTrailed, ready_with};
 
 use crate::bounds::UNREACHED;
 use crate::context::RunContext;
 use crate::session::Session;
+use crate::undoable::Undoable;
 use act_phase::ActFault;
-use cycle::Actor;
+use cycle::{Actor, Fired};
 use ops_base::elements::Change;
 use ops_base::endings::Ending;
 use ops_base::memory::OutOfMemory;
@@ -64,7 +68,7 @@ fn fire<
     source: &mut I,
     out: &mut Out,
     sink: &mut K,
-) -> Result<(Session<M>, bool), Ending>
+) -> Result<(Session<M>, Fired), Ending>
     requires settles { Settles M.stored M.found M.stands_for (λ m cs. H.pre context.now.settle.now m cs) (λ m cs r. H.post context.now.settle.now m cs r) }
     requires able { A.able context.now.actor.now }
     requires whole { IsTrue out.old.whole }
@@ -73,7 +77,7 @@ fn fire<
     requires of { IsOf M.stands_for context.now.program.now.rules session.state }
     requires next { (i : Inst) × (next_to_fire context.now.program.now.rules (alone M.stored session.state) ≡ Some i) × (i.rule ≡ rule) }
     ensures performs { (i : Inst) → next_to_fire context.now.program.now.rules (alone M.stored session.state) ≡ Some i
-        → PerformsOn (λ r c. record { course = state_course M.stored r.0.state names.new c; halted = r.1 }) of_ending result
+        → PerformsOn (λ r c. record { course = state_course M.stored r.0.state names.new c; halted = r.1.halted }) of_ending result
         (inlet input.old (I.left source.old) (I.faults source.old))
         (inlet input.new (I.left source.new) (I.faults source.new))
         (port (K.taken sink.old) (K.faults sink.old) out.old)
@@ -85,6 +89,8 @@ fn fire<
     ensures names { KeepsNames names.old names.new }
     ensures of { IfOk result (λ r. IsOf M.stands_for context.now.program.now.rules r.0.state) }
     ensures kept { IfOk result (λ r. r.0 ≡ record session { state = r.0.state }) }
+    ensures lawful { IfOk result (λ r. Lawful (M.stored session.state.matcher).elements (M.stored session.state.matcher).last r.1.changes) }
+    ensures leaves { IfOk result (λ r. standing M.stored r.0.state ≡ after_firing r.1 (standing M.stored session.state)) }
 {
     let firings = session.state.firings();
     if firings >= UNREACHED || session.state.last_tag() >= UNREACHED {
@@ -101,12 +107,88 @@ fn fire<
         out,
         sink,
     ) {
-        Ok((state, fired)) => Ok((Session { state, ..session }, fired.halted)),
+        Ok((state, fired)) => Ok((Session { state, ..session }, fired)),
         Err(fault) => {
             let name = rule_name(context.program.rules.as_slice(), rule);
             Err(ending_of_fault(firings + 1, rule, name, fault))
         }
     }
+}
+
+/// The same in a session that may keep its firings. What was before the firing joins the trail. Where there is none it
+/// costs a test.
+fn fire_kept<
+    M: Matcher,
+    H: Fn(M, &[Change]) -> Result<Settled<M>, OutOfMemory>,
+    A: Actor<M, I, K>,
+    I: Source,
+    K: Sink,
+>(
+    context: &RunContext<'_, H, A>,
+    names: &mut Names,
+    undoable: Undoable<M>,
+    rule: usize,
+    input: &mut Input,
+    source: &mut I,
+    out: &mut Out,
+    sink: &mut K,
+) -> Result<(Undoable<M>, bool), Ending>
+    requires settles { Settles M.stored M.found M.stands_for (λ m cs. H.pre context.now.settle.now m cs) (λ m cs r. H.post context.now.settle.now m cs r) }
+    requires able { A.able context.now.actor.now }
+    requires whole { IsTrue out.old.whole }
+    requires faults { K.faults sink.old < 2 ^ 63 }
+    requires reads { I.faults source.old < 2 ^ 63 }
+    requires of { IsOf M.stands_for context.now.program.now.rules undoable.session.state }
+    requires next { (i : Inst) × (next_to_fire context.now.program.now.rules (alone M.stored undoable.session.state) ≡ Some i) × (i.rule ≡ rule) }
+    requires trail { IsTrailed M.stored context.now.program.now.rules undoable }
+    requires named { IsNamedFrom 1 names.old undoable.trail }
+    ensures performs { (i : Inst) → next_to_fire context.now.program.now.rules (alone M.stored undoable.session.state) ≡ Some i
+        → PerformsOn (λ r c. record { course = state_course M.stored r.0.session.state names.new c; halted = r.1 }) of_ending result
+        (inlet input.old (I.left source.old) (I.faults source.old))
+        (inlet input.new (I.left source.new) (I.faults source.new))
+        (port (K.taken sink.old) (K.faults sink.old) out.old)
+        (port (K.taken sink.new) (K.faults sink.new) out.new)
+        (λ c. firing (setting_of context.now.program.now undoable.session.watch) out.old.column i (state_course M.stored undoable.session.state names.old c)) }
+    ensures reads { CountsReads (ends_unread result) (I.faults source.old) (I.faults source.new) }
+    ensures written { ends_unread result ≡ true → out.new.held ≡ [] }
+    ensures untouched { program_asks context.now.program.now.rules ≡ false → (input.new ≡ input.old) × (source.new ≡ source.old) }
+    ensures names { KeepsNames names.old names.new }
+    ensures of { IfOk result (λ r. IsOf M.stands_for context.now.program.now.rules r.0.session.state) }
+    ensures kept { IfOk result (λ r. r.0.session ≡ record undoable.session { state = r.0.session.state }) }
+
+    // The trail has what was before the firing.
+    ensures fired { IfOk result (λ r. (c d : Coming) → ready_with M.stored context.now.program.now.rules r.0 names.new c
+        ≡ fired_on (state_course M.stored r.0.session.state names.new c) (ready_with M.stored context.now.program.now.rules undoable names.old d)) }
+    ensures trail { IfOk result (λ r. IsTrailed M.stored context.now.program.now.rules r.0) }
+    ensures named { IfOk result (λ r. (least : ℕ) → IsNamedFrom least names.old undoable.trail → IsNamedFrom least names.new r.0.trail) }
+{
+    let Undoable { session, trail } = undoable;
+    let Some(trail) = trail else {
+        let (alone, fired) = fire(context, names, session, rule, input, source, out, sink)?;
+        let halted = fired.halted;
+        return Ok((
+            Undoable {
+                session: alone,
+                trail: None,
+            },
+            halted,
+        ));
+    };
+    let mut trail = trail;
+    let point = names.point();
+    // the index is looked at for what the state keeps true
+    let _index = session.state.index();
+    trail.begin(&session.state)?;
+    let (after, fired) = fire(context, names, session, rule, input, source, out, sink)?;
+    let halted = fired.halted;
+    trail.push(point, fired)?;
+    Ok((
+        Undoable {
+            session: after,
+            trail: Some(trail),
+        },
+        halted,
+    ))
 }
 
 /// The last firing of a run: its production, and whether `halt` was done in it.
@@ -222,58 +304,69 @@ pub(crate) fn run<
 >(
     context: &RunContext<'_, H, A>,
     names: &mut Names,
-    session: Session<M>,
+    undoable: Undoable<M>,
     count: Option<u64>,
     input: &mut Input,
     source: &mut I,
     out: &mut Out,
     sink: &mut K,
-) -> Result<Session<M>, Ending>
+) -> Result<Undoable<M>, Ending>
     requires settles { Settles M.stored M.found M.stands_for (λ m cs. H.pre context.now.settle.now m cs) (λ m cs r. H.post context.now.settle.now m cs r) }
     requires able { A.able context.now.actor.now }
     requires whole { IsTrue out.old.whole }
     requires faults { K.faults sink.old < 2 ^ 63 }
     requires reads { I.faults source.old < 2 ^ 63 }
-    requires of { IsOf M.stands_for context.now.program.now.rules session.state }
-    ensures performs { PerformsOn (λ s c. state_course M.stored s.state names.new c) of_ending result
+    requires of { IsOf M.stands_for context.now.program.now.rules undoable.session.state }
+    requires trail { IsTrailed M.stored context.now.program.now.rules undoable }
+    requires named { IsNamedFrom 1 names.old undoable.trail }
+    ensures performs { PerformsOn (λ u c. ready_with M.stored context.now.program.now.rules u names.new c) of_ending result
         (inlet input.old (I.left source.old) (I.faults source.old))
         (inlet input.new (I.left source.new) (I.faults source.new))
         (port (K.taken sink.old) (K.faults sink.old) out.old)
         (port (K.taken sink.new) (K.faults sink.new) out.new)
-        (λ c. run_on (context.now.limit - session.state.firings) (setting_of context.now.program.now session.watch) session.breaks out.old.column None count
-        (state_course M.stored session.state names.old c)) }
+        (λ c. run_on (context.now.limit - undoable.session.state.firings) (setting_of context.now.program.now undoable.session.watch) out.old.column None count
+        (ready_with M.stored context.now.program.now.rules undoable names.old c)) }
     ensures reads { CountsReads (ends_unread result) (I.faults source.old) (I.faults source.new) }
     ensures written { ends_unread result ≡ true → out.new.held ≡ [] }
     ensures untouched { program_asks context.now.program.now.rules ≡ false → (input.new ≡ input.old) × (source.new ≡ source.old) }
     ensures names { KeepsNames names.old names.new }
-    ensures of { IfOk result (λ s. IsOf M.stands_for context.now.program.now.rules s.state) }
-    ensures kept { IfOk result (λ s. s ≡ record session { state = s.state }) }
+    ensures of { IfOk result (λ u. IsOf M.stands_for context.now.program.now.rules u.session.state) }
+    ensures kept { IfOk result (λ u. u.session ≡ record undoable.session { state = u.session.state }) }
+    ensures trail { IfOk result (λ u. IsTrailed M.stored context.now.program.now.rules u) }
+    ensures named { IfOk result (λ u. (least : ℕ) → IsNamedFrom least names.old undoable.trail → IsNamedFrom least names.new u.trail) }
 {
-    let mut session = session;
-    let mut left = context.limit.saturating_sub(session.state.firings());
+    let mut undoable = undoable;
+    let mut left = context
+        .limit
+        .saturating_sub(undoable.session.state.firings());
     let mut count = count;
     let mut last = None;
     'turns: loop {
-        if let Some(pause) = pause_of(context.program, session.breaks.as_slice(), last, count) {
+        if let Some(pause) = pause_of(
+            context.program,
+            undoable.session.breaks.as_slice(),
+            last,
+            count,
+        ) {
             put_pause(out, sink, names, pause)?;
-            return Ok(session);
+            return Ok(undoable);
         }
         // what is next is looked up here, for the end and for its production, and once more as it fires
-        let Some(next) = session.state.next() else {
+        let Some(next) = undoable.session.state.next() else {
             put_line(out, sink, b"end -- no production true")?;
-            return Ok(session);
+            return Ok(undoable);
         };
         let rule = next.rule;
         if left == 0 {
             return Err(Ending::Limit {
-                firings: session.state.firings(),
+                firings: undoable.session.state.firings(),
             });
         }
         left -= 1;
         count = one_less(count);
-        let (after, halted) = fire(context, names, session, rule, input, source, out, sink)?;
+        let (after, halted) = fire_kept(context, names, undoable, rule, input, source, out, sink)?;
         show(out, sink)?;
-        session = after;
+        undoable = after;
         last = Some(LastFiring { rule, halted });
     }
 }

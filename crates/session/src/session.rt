@@ -58,7 +58,7 @@ pub(crate) fn start<M: Matcher>(
     requires stands { M.stands_for matcher program.now.rules }
     requires elements { (M.stored matcher).elements ≡ [] }
     requires last { (M.stored matcher).last ≡ 0 }
-    ensures begun { IfOk result (λ s. (n : Spellings) (c : Coming) → meant_by M.stored program.now.rules s n c ≡ begun program.now.rules n c) }
+    ensures begun { IfOk result (λ s. (n : Spellings) (c : Coming) → meant_by M.stored program.now.rules s n c ≡ begun [] program.now.rules n c) }
     ensures under_way { IfOk result (IsUnderWay M.stored M.stands_for program.now.rules) }
 {
     let breaks = no_breaks(alloc, program)?;

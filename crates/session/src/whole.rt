@@ -9,14 +9,15 @@ ghost use Rattle.act_phase.specs.Asking.{session_asks};
 ghost use Rattle.act_phase.specs.Held.{HoldsProgram};
 ghost use Rattle.act_phase.specs.Outcomes.{setting_of};
 ghost use Rattle.cycle.specs.Settles.{Settles};
-ghost use Rattle.session.specs.Courses.{ended, ends_unread, meant_by};
+ghost use Rattle.session.specs.Courses.{ends_unread};
 ghost use Rattle.session.specs.Endings.{EndsOn, CountsReadFault};
+ghost use Rattle.session.specs.Trailing.{ended, meant_with};
 ghost use Rattle.session.specs.Holding.{EndsHeld};
 ghost use Rattle.why_lines.specs.Explained.{explained_if, explains};
 
 use crate::commands::do_commands;
 use crate::context::SessionContext;
-use crate::session::Session;
+use crate::undoable::Undoable;
 use cycle::{Actor, Maker};
 use live_rules::Live;
 use ops_base::elements::Change;
@@ -32,17 +33,17 @@ use work_store::{Matcher, Settled};
 
 /// What is known of a session once its commands are done. It is not given back piece by piece: the program is about to
 /// end, and that would take a walk over all that it holds.
-fn known_ending<M: Matcher>(done: Result<Session<M>, Ending>) -> Result<Ending, Stop>
+fn known_ending<M: Matcher>(done: Result<Undoable<M>, Ending>) -> Result<Ending, Stop>
     ensures { result ≡ ended M.stored done }
 {
     match done {
-        Ok(session) => {
+        Ok(undoable) => {
             let ending = Ending::Done {
-                firings: session.state.firings(),
-                elements: session.state.store().len() as u64,
-                last_tag: session.state.last_tag(),
+                firings: undoable.session.state.firings(),
+                elements: undoable.session.state.store().len() as u64,
+                last_tag: undoable.session.state.last_tag(),
             };
-            mem::forget(session);
+            mem::forget(undoable);
             Ok(ending)
         }
         Err(Ending::WriteFault) => Err(Stop::Write),
@@ -56,26 +57,26 @@ fn put_explanations<M: Matcher, K: Sink>(
     alloc: Global,
     program: &Program,
     names: &Names,
-    session: Session<M>,
+    undoable: Undoable<M>,
     out: &mut Out,
     sink: &mut K,
-) -> Result<Session<M>, Ending>
-    requires none_waits { session.pending ≡ [] }
+) -> Result<Undoable<M>, Ending>
+    requires none_waits { undoable.session.pending ≡ [] }
     requires whole { IsTrue out.old.whole }
     requires faults { K.faults sink.old < 2 ^ 63 }
-    ensures performs { (c : Coming) → Performs (λ s. meant_by M.stored program.now.rules s names.now c) of_ending result
+    ensures performs { (c : Coming) → Performs (λ u. meant_with M.stored program.now.rules u names.now c) of_ending result
         (port (K.taken sink.old) (K.faults sink.old) out.old)
         (port (K.taken sink.new) (K.faults sink.new) out.new)
-        (explains program.now.classes out.old.column (meant_by M.stored program.now.rules session names.now c)) }
+        (explains program.now.classes out.old.column (meant_with M.stored program.now.rules undoable names.now c)) }
     ensures reads { ends_unread result ≡ false }
-    ensures none_waits { IfOk result (λ s. s.pending ≡ []) }
+    ensures none_waits { IfOk result (λ u. u.session.pending ≡ []) }
     ensures flushed { OnOk result (out.new.held ≡ []) }
 {
-    let wm = session.state.store().present(alloc)?;
+    let wm = undoable.session.state.store().present(alloc)?;
     put_why(alloc, names, program, &wm, out, sink)?;
     drop(wm);
     out.flush(sink)?;
-    Ok(session)
+    Ok(undoable)
 }
 
 /// Does the commands of a program from nothing, and then explains the productions in force where that is asked for.
@@ -93,14 +94,14 @@ fn do_all<
     source: &mut I,
     out: &mut Out,
     sink: &mut K,
-) -> Result<Session<B::M>, Ending>
+) -> Result<Undoable<B::M>, Ending>
     requires settles { Settles B.M.stored B.M.found B.M.stands_for (λ m cs. H.pre context.now.settle.now m cs) (λ m cs r. H.post context.now.settle.now m cs r) }
     requires able { A.able context.now.actor.now }
     requires whole { IsTrue out.old.whole }
     requires faults { K.faults sink.old < 2 ^ 63 }
     requires reads { I.faults source.old < 2 ^ 63 }
     requires column { out.old.column ≡ 0 }
-    ensures performs { PerformsOn (λ s c. meant_by B.M.stored live.new.program.rules s names.new c) of_ending result
+    ensures performs { PerformsOn (λ u c. meant_with B.M.stored live.new.program.rules u names.new c) of_ending result
         (inlet input.old (I.left source.old) (I.faults source.old))
         (inlet input.new (I.left source.new) (I.faults source.new))
         (port (K.taken sink.old) (K.faults sink.old) out.old)
@@ -110,15 +111,15 @@ fn do_all<
     ensures written { ends_unread result ≡ true → out.new.held ≡ [] }
     ensures untouched { session_asks live.old.program.rules live.old.program.commands ≡ false → (input.new ≡ input.old) × (source.new ≡ source.old) }
     ensures names { KeepsNames names.old names.new }
-    ensures none_waits { IfOk result (λ s. s.pending ≡ []) }
+    ensures none_waits { IfOk result (λ u. u.session.pending ≡ []) }
     ensures flushed { out.old.held ≡ [] → OnOk result (out.new.held ≡ []) }
 {
-    let session = do_commands(context, live, names, input, source, out, sink)?;
+    let undoable = do_commands(context, live, names, input, source, out, sink)?;
     let is_explained = context.is_explained;
     if !is_explained {
-        return Ok(session);
+        return Ok(undoable);
     }
-    put_explanations(context.alloc, &live.program, names, session, out, sink)
+    put_explanations(context.alloc, &live.program, names, undoable, out, sink)
 }
 
 /// Does the commands of a program in order, from nothing, and at their end puts the lines that explain the productions

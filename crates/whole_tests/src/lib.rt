@@ -2,6 +2,8 @@
 #![tactic(auto)]
 
 #[cfg(test)]
+mod back_rows;
+#[cfg(test)]
 mod devices;
 #[cfg(test)]
 mod gates;

@@ -1,6 +1,6 @@
 use Rattle.std.proofs.Common.{◌++◌, ◌∷◌, [], false, ap, ◌∙◌}
 use Rattle.std.specs.Prelude.{option_map, unwrap_or}
-use Rattle.ops_meaning.specs.Running.{taken_out}
+use Rattle.ops_meaning.specs.Running.{taken_out, trail_emptied}
 use Rattle.run_laws.specs.Standing.{stands_in}
 use Rattle.run_laws.proofs.Marks.{session_marked}
 use Rattle.run_laws.proofs.Orders.{added_order, replaced, replaced_order, taken_order}
@@ -12,7 +12,7 @@ returns-clause-taken c = λ n k. stands_without n k.rules k.course.wm k.course.f
 
 pub returns-clause-added : goal.returns-clause-added
 returns-clause-added c = λ r k absent fired.
-    ap (λ o. stands_in (let left = unwrap_or (option_map (λ n. taken_out n k) o) k in record left { rules = left.rules ++ r ∷ []; breaks = left.breaks ++ false ∷ [] })) absent
+    ap (λ o. stands_in (let left = unwrap_or (option_map (λ n. taken_out n k) o) k in record (trail_emptied left) { rules = left.rules ++ r ∷ []; breaks = left.breaks ++ false ∷ [] })) absent
     ∙ stands_with k.rules r k.course.wm k.course.fired fired
 
 pub returns-clause-taken_order : goal.returns-clause-taken_order

@@ -1,4 +1,4 @@
-use Rattle.std.proofs.Common.{◌≡◌, ◌-◌, ℕ, ◌<◌, ◌∙◌, sym, ap, option_map, Result, Err, refl, arith}
+use Rattle.std.proofs.Common.{◌≡◌, ◌-◌, ℕ, ◌<◌, ◌∙◌, sym, subst, ap, option_map, Some, Result, Err, refl, arith}
 use Rattle.std.specs.Option.{option_copied}
 use Rattle.std.proofs.lemmas.Result.{err_from_is_err_and}
 use Rattle.ops_base.specs.declared.endings.Ending.{Ending}
@@ -6,16 +6,17 @@ use Rattle.ops_base.specs.declared.endings.Ending.TheVariants as ending
 use Rattle.ops_io.specs.Coming.{Coming}
 use Rattle.ops_io.proofs.PortLemmas.{put_nothing}
 use Rattle.ops_meaning.specs.Effects.{of_ending}
-use Rattle.ops_meaning.specs.Running.{Course}
+use Rattle.ops_meaning.specs.Running.{Session as Meant, fired_on}
 use Rattle.act_phase.specs.Outcomes.{setting_of}
 use Rattle.ops_meaning.proofs.InletLemmas.{pending_on_start}
 use Rattle.ops_meaning.proofs.NamesKept.{names_then}
-use Rattle.cycle.specs.States.{state_course, no_names, no_input}
+use Rattle.cycle.specs.States.{no_names, no_input, state_course}
 use Rattle.session.specs.Pauses.{meant_last, pause_line}
+use Rattle.session.specs.Trailing.{ready_with}
 use Rattle.session.proofs.Comings.{pending_put, performed_put}
 use Rattle.session.proofs.Flushes.{shown_put, shown_refused, performs_still, performs_refused}
-use Rattle.session.proofs.RunLemmas.{kept_again, same_watch, same_breaks}
-use Rattle.session.proofs.Turns.{ends_paused, ends_over, ends_limited, ends_firing, one_firing}
+use Rattle.session.proofs.RunLemmas.{kept_again, same_watch}
+use Rattle.session.proofs.Turns.{ends_paused, ends_over, ends_limited, ends_firing, one_firing, pending_as}
 use Rattle.act_phase.proofs.Asking.{both_then}
 use Rattle.session.proofs.runs.run.Goals as goal
 
@@ -23,13 +24,15 @@ pub returns-in_err-put_pause-clause-performs : goal.returns-in_err-put_pause-cla
 returns-in_err-put_pause-clause-performs g c =
     let p = err_from_is_err_and c.from_residual.result c.from_residual.ensures.1 in
     rw (p.1, p.2)
-    (ends_paused c.turns.left (setting_of c.args.context.now.program.now c.turns.session.watch) c.turns.session.breaks (meant_last c.turns.last) c.turns.count (λ z. state_course g.M.Matcher.stored c.turns.session.state c.turns.names z) c.turns.invariant.out
+    (ends_paused c.turns.left (setting_of c.args.context.now.program.now c.turns.undoable.session.watch) (meant_last c.turns.last) c.turns.count (λ z. ready_with g.M.Matcher.stored c.args.context.now.program.now.rules c.turns.undoable c.turns.names z)
+    (ready_with g.M.Matcher.stored c.args.context.now.program.now.rules c.turns.undoable c.turns.names no_input) (λ z m. refl) c.turns.invariant.out
     (pause_line c.turns.names c.in-Some.pause) (λ z. sym (rw c.as_slice.ensures at (c.pause_of.ensures c.turns.names)) ∙ ap (option_map (pause_line c.turns.names)) c.in-Some.is)
     (λ z. c.in_err-put_pause.ensures.puts))
 
 pub returns-in-Some-clause-performs : goal.returns-in-Some-clause-performs
 returns-in-Some-clause-performs g c =
-    ends_paused c.turns.left (setting_of c.args.context.now.program.now c.turns.session.watch) c.turns.session.breaks (meant_last c.turns.last) c.turns.count (λ z. state_course g.M.Matcher.stored c.turns.session.state c.turns.names z) c.turns.invariant.out
+    ends_paused c.turns.left (setting_of c.args.context.now.program.now c.turns.undoable.session.watch) (meant_last c.turns.last) c.turns.count (λ z. ready_with g.M.Matcher.stored c.args.context.now.program.now.rules c.turns.undoable c.turns.names z)
+    (ready_with g.M.Matcher.stored c.args.context.now.program.now.rules c.turns.undoable c.turns.names no_input) (λ z m. refl) c.turns.invariant.out
     (pause_line c.turns.names c.in-Some.pause) (λ z. sym (rw c.as_slice.ensures at (c.pause_of.ensures c.turns.names)) ∙ ap (option_map (pause_line c.turns.names)) c.in-Some.is)
     (λ z. (refl, c.in_ok-put_pause.ensures.puts))
 
@@ -38,7 +41,8 @@ returns-in_err-put_line-clause-performs g c =
     let goes = λ (z : Coming). sym (rw c.as_slice.ensures at (c.pause_of.ensures c.turns.names)) ∙ ap (option_map (pause_line c.turns.names)) c.in_default.is in
     let p = err_from_is_err_and c.from_residual-in_err-put_line.result c.from_residual-in_err-put_line.ensures.1 in
     rw (p.1, p.2)
-    (ends_over c.turns.left (setting_of c.args.context.now.program.now c.turns.session.watch) c.turns.session.breaks (meant_last c.turns.last) c.turns.count (λ z. state_course g.M.Matcher.stored c.turns.session.state c.turns.names z) c.turns.invariant.out
+    (ends_over c.turns.left (setting_of c.args.context.now.program.now c.turns.undoable.session.watch) (meant_last c.turns.last) c.turns.count (λ z. ready_with g.M.Matcher.stored c.args.context.now.program.now.rules c.turns.undoable c.turns.names z)
+    (ready_with g.M.Matcher.stored c.args.context.now.program.now.rules c.turns.undoable c.turns.names no_input) (λ z m. refl) c.turns.invariant.out
     (option_copied c.next.result) goes
     (λ z. c.next.ensures.dominant c.args.context.now.program.now.rules c.turns.names z c.turns.invariant.of.stands c.turns.invariant.of.specificities)
     (ap option_copied c.in_default-next.is) (λ z. c.in_err-put_line.ensures.puts))
@@ -46,7 +50,8 @@ returns-in_err-put_line-clause-performs g c =
 pub returns-in_default-next-clause-performs : goal.returns-in_default-next-clause-performs
 returns-in_default-next-clause-performs g c =
     let goes = λ (z : Coming). sym (rw c.as_slice.ensures at (c.pause_of.ensures c.turns.names)) ∙ ap (option_map (pause_line c.turns.names)) c.in_default.is in
-    ends_over c.turns.left (setting_of c.args.context.now.program.now c.turns.session.watch) c.turns.session.breaks (meant_last c.turns.last) c.turns.count (λ z. state_course g.M.Matcher.stored c.turns.session.state c.turns.names z) c.turns.invariant.out
+    ends_over c.turns.left (setting_of c.args.context.now.program.now c.turns.undoable.session.watch) (meant_last c.turns.last) c.turns.count (λ z. ready_with g.M.Matcher.stored c.args.context.now.program.now.rules c.turns.undoable c.turns.names z)
+    (ready_with g.M.Matcher.stored c.args.context.now.program.now.rules c.turns.undoable c.turns.names no_input) (λ z m. refl) c.turns.invariant.out
     (option_copied c.next.result) goes
     (λ z. c.next.ensures.dominant c.args.context.now.program.now.rules c.turns.names z c.turns.invariant.of.stands c.turns.invariant.of.specificities)
     (ap option_copied c.in_default-next.is) (λ z. (refl, c.in_ok-put_line.ensures.puts))
@@ -54,15 +59,16 @@ returns-in_default-next-clause-performs g c =
 pub returns-then-left-eq0-clause-performs : goal.returns-then-left-eq0-clause-performs
 returns-then-left-eq0-clause-performs g c =
     let goes = λ (z : Coming). sym (rw c.as_slice.ensures at (c.pause_of.ensures c.turns.names)) ∙ ap (option_map (pause_line c.turns.names)) c.in_default.is in
-    let limited : ℕ → Result Course Ending = λ n. Err (ending.Limit n) in
-    ends_limited c.turns.left (setting_of c.args.context.now.program.now c.turns.session.watch) c.turns.session.breaks (meant_last c.turns.last) c.turns.count (λ z. state_course g.M.Matcher.stored c.turns.session.state c.turns.names z) c.turns.invariant.out
+    let limited : ℕ → Result Meant Ending = λ n. Err (ending.Limit n) in
+    ends_limited c.turns.left (setting_of c.args.context.now.program.now c.turns.undoable.session.watch) (meant_last c.turns.last) c.turns.count (λ z. ready_with g.M.Matcher.stored c.args.context.now.program.now.rules c.turns.undoable c.turns.names z)
+    (ready_with g.M.Matcher.stored c.args.context.now.program.now.rules c.turns.undoable c.turns.names no_input) (λ z m. refl) c.turns.invariant.out
     (option_copied c.next.result) goes
     (λ z. c.next.ensures.dominant c.args.context.now.program.now.rules c.turns.names z c.turns.invariant.of.stands c.turns.invariant.of.specificities)
     c.in-Some-next.next.now (ap option_copied c.in-Some-next.is) c.if-left-eq0.true
     (λ z. (ap limited (sym c.firings-then-left-eq0.ensures), put_nothing _ c.turns.invariant.whole))
 
-pub fire-requires-clause-next : goal.fire-requires-clause-next
-fire-requires-clause-next g c =
+pub fire_kept-requires-clause-next : goal.fire_kept-requires-clause-next
+fire_kept-requires-clause-next g c =
     (c.in-Some-next.next.now, sym (c.next.ensures.dominant c.args.context.now.program.now.rules no_names no_input c.turns.invariant.of.stands c.turns.invariant.of.specificities) ∙ ap option_copied c.in-Some-next.is, refl)
 
 pub returns-in_err-after-clause-performs : goal.returns-in_err-after-clause-performs
@@ -72,7 +78,8 @@ returns-in_err-after-clause-performs g c =
     let some : 0 < c.turns.left = omega (arith, c.if-left-eq0.false) in
     let found = c.next.ensures.dominant c.args.context.now.program.now.rules no_names no_input c.turns.invariant.of.stands c.turns.invariant.of.specificities in
     rw (p.1, p.2)
-    (ends_firing c.turns.left (setting_of c.args.context.now.program.now c.turns.session.watch) c.turns.session.breaks (meant_last c.turns.last) c.turns.count (λ z. state_course g.M.Matcher.stored c.turns.session.state c.turns.names z) c.turns.invariant.out
+    (ends_firing c.turns.left (setting_of c.args.context.now.program.now c.turns.undoable.session.watch) (meant_last c.turns.last) c.turns.count (λ z. ready_with g.M.Matcher.stored c.args.context.now.program.now.rules c.turns.undoable c.turns.names z)
+    (ready_with g.M.Matcher.stored c.args.context.now.program.now.rules c.turns.undoable c.turns.names no_input) (λ z m. refl) c.turns.invariant.out
     (option_copied c.next.result) goes
     (λ z. c.next.ensures.dominant c.args.context.now.program.now.rules c.turns.names z c.turns.invariant.of.stands c.turns.invariant.of.specificities)
     c.in-Some-next.next.now some (ap option_copied c.in-Some-next.is) c.in_err-after.field-0.0
@@ -100,7 +107,8 @@ returns-in_err-show-clause-performs g c =
     let shown = shown_refused _ _ c.in_err-show.ensures.shows in
     let p = err_from_is_err_and c.from_residual-in_err-show.result c.from_residual-in_err-show.ensures.1 in
     rw (p.1, p.2)
-    (ends_firing c.turns.left (setting_of c.args.context.now.program.now c.turns.session.watch) c.turns.session.breaks (meant_last c.turns.last) c.turns.count (λ z. state_course g.M.Matcher.stored c.turns.session.state c.turns.names z) c.turns.invariant.out
+    (ends_firing c.turns.left (setting_of c.args.context.now.program.now c.turns.undoable.session.watch) (meant_last c.turns.last) c.turns.count (λ z. ready_with g.M.Matcher.stored c.args.context.now.program.now.rules c.turns.undoable c.turns.names z)
+    (ready_with g.M.Matcher.stored c.args.context.now.program.now.rules c.turns.undoable c.turns.names no_input) (λ z m. refl) c.turns.invariant.out
     (option_copied c.next.result) goes
     (λ z. c.next.ensures.dominant c.args.context.now.program.now.rules c.turns.names z c.turns.invariant.of.stands c.turns.invariant.of.specificities)
     c.in-Some-next.next.now some (ap option_copied c.in-Some-next.is) ending.WriteFault
@@ -113,7 +121,7 @@ returns-in_err-show-clause-reads g c =
 
 pub returns-in_err-show-clause-names : goal.returns-in_err-show-clause-names
 returns-in_err-show-clause-names g c =
-    names_then c.args.names.now c.turns.names c.fire.new.names c.turns.invariant.names c.in_ok-after.ensures.names
+    names_then c.args.names.now c.turns.names c.fire_kept.new.names c.turns.invariant.names c.in_ok-after.ensures.names
 
 pub turns-preserved : goal.turns-preserved
 turns-preserved g c =
@@ -123,27 +131,36 @@ turns-preserved g c =
     let performs = c.in_ok-after.ensures.performs c.in-Some-next.next.now (sym found ∙ ap option_copied c.in-Some-next.is) in
     let whole = (performed_put performs).1.whole in
     let shown = shown_put g.K.Sink.taken g.K.Sink.faults _ _ _ _ whole c.in_ok-show.ensures.shows in
-    let out = one_firing c.turns.left (setting_of c.args.context.now.program.now c.turns.session.watch) c.turns.session.breaks (meant_last c.turns.last) c.turns.count (λ z. state_course g.M.Matcher.stored c.turns.session.state c.turns.names z) c.turns.invariant.out
+    let out = one_firing c.turns.left (setting_of c.args.context.now.program.now c.turns.undoable.session.watch) (meant_last c.turns.last) c.turns.count (λ z. ready_with g.M.Matcher.stored c.args.context.now.program.now.rules c.turns.undoable c.turns.names z)
+    (ready_with g.M.Matcher.stored c.args.context.now.program.now.rules c.turns.undoable c.turns.names no_input) (λ z m. refl) c.turns.invariant.out
     (option_copied c.next.result) goes
     (λ z. c.next.ensures.dominant c.args.context.now.program.now.rules c.turns.names z c.turns.invariant.of.stands c.turns.invariant.of.specificities)
     c.in-Some-next.next.now some (ap option_copied c.in-Some-next.is)
     (record { 0 = c.in_ok-after.after; 1 = c.in_ok-after.halted }) c.one_less-count.result c.one_less-count.ensures c.in_ok-after.ensures.reads
     (performs_still performs shown) in
     let put = pending_put _ _ _ _ _ _ out in
+    let after = c.in_ok-after.after in
+    let rules = c.args.context.now.program.now.rules in
+    let before = ready_with g.M.Matcher.stored rules c.turns.undoable c.turns.names no_input in
+    let out_kept = pending_as (c.turns.left - 1) (setting_of c.args.context.now.program.now) c.turns.undoable.session.watch after.session.watch (meant_last (Some (record { rule = c.in-Some-next.next.now.rule; halted = c.in_ok-after.halted }))) c.one_less-count.result
+    (λ z. fired_on (state_course g.M.Matcher.stored after.session.state c.fire_kept.new.names z) before) (λ z. ready_with g.M.Matcher.stored rules after c.fire_kept.new.names z)
+    (same_watch c.turns.undoable.session after.session c.in_ok-after.ensures.kept) (λ z. c.in_ok-after.ensures.fired z no_input) out in
     record {
-      out = rw (same_watch c.turns.session c.in_ok-after.after c.in_ok-after.ensures.kept, same_breaks c.turns.session c.in_ok-after.after c.in_ok-after.ensures.kept) out;
+      out = out_kept;
       whole = put.1.whole;
       faults = put.1.faults;
       untouched = λ none. both_then (c.turns.invariant.untouched none) (c.in_ok-after.ensures.untouched none);
-      names = names_then c.args.names.now c.turns.names c.fire.new.names c.turns.invariant.names c.in_ok-after.ensures.names;
+      names = names_then c.args.names.now c.turns.names c.fire_kept.new.names c.turns.invariant.names c.in_ok-after.ensures.names;
       of = c.in_ok-after.ensures.of;
-      kept = kept_again c.args.session c.turns.session c.in_ok-after.after c.turns.invariant.kept c.in_ok-after.ensures.kept;
+      kept = kept_again c.args.undoable.session c.turns.undoable.session after.session c.turns.invariant.kept c.in_ok-after.ensures.kept;
+      trail = c.in_ok-after.ensures.trail;
+      named = λ least h. c.in_ok-after.ensures.named least (c.turns.invariant.named least h);
     }
 
 pub turns-init : goal.turns-init
 turns-init g c = record {
   out = (
-      let left : c.saturating_sub-left.result ≡ c.args.context.now.limit - c.args.session.state.firings = omega arith in
+      let left : c.saturating_sub-left.result ≡ c.args.context.now.limit - c.args.undoable.session.state.firings = omega arith in
       rw left (pending_on_start _ _ _ c.requires.whole)
       );
   whole = c.requires.whole;
@@ -152,14 +169,19 @@ turns-init g c = record {
   names = λ i s h. h;
   of = c.requires.of;
   kept = refl;
+  trail = c.requires.trail;
+  named = λ least h. h;
 }
 
 pub returns-in_err-after-clause-names : goal.returns-in_err-after-clause-names
 returns-in_err-after-clause-names g c =
-    names_then c.args.names.now c.turns.names c.fire.new.names c.turns.invariant.names c.in_err-after.ensures.names
+    names_then c.args.names.now c.turns.names c.fire_kept.new.names c.turns.invariant.names c.in_err-after.ensures.names
 
 pub returns-in_err-after-clause-untouched : goal.returns-in_err-after-clause-untouched
 returns-in_err-after-clause-untouched g c = λ none. both_then (c.turns.invariant.untouched none) (c.in_err-after.ensures.untouched none)
 
 pub returns-in_err-show-clause-untouched : goal.returns-in_err-show-clause-untouched
 returns-in_err-show-clause-untouched g c = λ none. both_then (c.turns.invariant.untouched none) (c.in_ok-after.ensures.untouched none)
+
+pub fire_kept-requires-clause-named : goal.fire_kept-requires-clause-named
+fire_kept-requires-clause-named g c = c.turns.invariant.named 1 c.requires.named

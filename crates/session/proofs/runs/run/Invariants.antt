@@ -1,4 +1,4 @@
-use Rattle.std.proofs.Common.{◌≡◌, false, ◌-◌, None, IsTrue}
+use Rattle.std.proofs.Common.{◌≡◌, ℕ, false, ◌-◌, None, IsTrue}
 use Rattle.ops_io.specs.Coming.{inlet}
 use Rattle.ops_io.specs.Ports.{port}
 use Rattle.ops_meaning.specs.Effects.{PendingOn}
@@ -6,9 +6,9 @@ use Rattle.ops_meaning.specs.Kept.{KeepsNames}
 use Rattle.ops_meaning.specs.Running.{run_on}
 use Rattle.act_phase.specs.Asking.{program_asks}
 use Rattle.act_phase.specs.Outcomes.{setting_of}
-use Rattle.cycle.specs.States.{state_course}
 use Rattle.session.specs.Courses.{IsOf}
 use Rattle.session.specs.Pauses.{meant_last}
+use Rattle.session.specs.Trailing.{IsNamedFrom, IsTrailed, ready_with}
 use Rattle.session.proofs.runs.run.Given as goal
 
 abbrev pub invariant-turns : goal.invariant-turns
@@ -17,14 +17,16 @@ invariant-turns g l = record {
       (inlet l.input (g.I.Source.left l.source) (g.I.Source.faults l.source))
       (port (g.K.Sink.taken l.fn.sink) (g.K.Sink.faults l.fn.sink) l.fn.out)
       (port (g.K.Sink.taken l.sink) (g.K.Sink.faults l.sink) l.out)
-      (λ z. run_on (l.context.limit - l.fn.session.state.firings) (setting_of l.context.program.now l.fn.session.watch) l.fn.session.breaks l.fn.out.column None l.fn.count (state_course g.M.Matcher.stored l.fn.session.state l.fn.names z))
-      (λ z. run_on l.left (setting_of l.context.program.now l.session.watch) l.session.breaks l.out.column (meant_last l.last) l.count (state_course g.M.Matcher.stored l.session.state l.names z));
+      (λ z. run_on (l.context.limit - l.fn.undoable.session.state.firings) (setting_of l.context.program.now l.fn.undoable.session.watch) l.fn.out.column None l.fn.count (ready_with g.M.Matcher.stored l.context.program.now.rules l.fn.undoable l.fn.names z))
+      (λ z. run_on l.left (setting_of l.context.program.now l.undoable.session.watch) l.out.column (meant_last l.last) l.count (ready_with g.M.Matcher.stored l.context.program.now.rules l.undoable l.names z));
   whole : IsTrue l.out.whole;
   faults : g.K.Sink.faults l.sink ≡ g.K.Sink.faults l.fn.sink;
   untouched : program_asks l.context.program.now.rules ≡ false → (l.input ≡ l.fn.input) × (l.source ≡ l.fn.source);
   names : KeepsNames l.fn.names l.names;
-  of : IsOf g.M.Matcher.stands_for l.context.program.now.rules l.session.state;
-  kept : l.session ≡ record l.fn.session { state = l.session.state };
+  of : IsOf g.M.Matcher.stands_for l.context.program.now.rules l.undoable.session.state;
+  kept : l.undoable.session ≡ record l.fn.undoable.session { state = l.undoable.session.state };
+  trail : IsTrailed g.M.Matcher.stored l.context.program.now.rules l.undoable;
+  named : (least : ℕ) → IsNamedFrom least l.fn.names l.fn.undoable.trail → IsNamedFrom least l.names l.undoable.trail;
 }
 
 abbrev pub decreases-turns : goal.decreases-turns

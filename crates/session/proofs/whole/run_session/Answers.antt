@@ -32,4 +32,4 @@ returns-clause-sets g c = session_goes (setting_of c.args.live.now.program 0) c.
 
 pub returns-clause-held : goal.returns-clause-held
 returns-clause-held g c = λ h.
-    (holds_program c.args.names.now c.do_all-done.new.names c.args.live.now.program c.do_all-done.ensures.names h, session_held c.args.live.now.program c.args.context.now.limit c.args.names.now h)
+    (holds_program c.args.names.now c.do_all-done.new.names c.args.live.now.program (c.do_all-done.ensures.names) h, session_held c.args.live.now.program c.args.context.now.limit c.args.names.now h)

@@ -1,11 +1,6 @@
-use Rattle.std.proofs.Common.{◌∙◌, ap, sym}
-use Rattle.conflict_index.specs.Indexed.{fired_of}
-use Rattle.cycle.specs.Standing.{without_gone}
-use Rattle.cycle.specs.States.{Held}
 use Rattle.cycle.proofs.Above.{phase_above}
 use Rattle.cycle.proofs.Phases.{members_of, specificities, gone_of, come_of, is_part, is_apart, again, phase_done}
-use Rattle.cycle.proofs.Standings.{marks_left}
-use Rattle.cycle.proofs.state.State.phase.Goals as goal
+use Rattle.cycle.proofs.state.State.change.Goals as goal
 
 pub apply-requires-clause-members : goal.apply-requires-clause-members
 apply-requires-clause-members g c =
@@ -60,11 +55,3 @@ returns-clause-course g c = λ names coming.
     c.in_ok-matcher.field-0.matcher c.in_ok-matcher.field-0.gone.items c.in_ok-matcher.field-0.come.items c.as_slice.result.now c.as_slice-2.result.now c.in_ok-matcher.ensures.settled c.as_slice.ensures.value c.as_slice-2.ensures.value
     c.last_of-last.ensures.kept c.last_of-last.ensures.set c.in_ok-matcher.ensures.stands c.apply.new.self (rw c.as_mut.ensures.value at c.in_ok-apply.ensures.ok)
     c.args.changes.now c.in_ok-matcher.ensures.elements c.in_ok-matcher.ensures.last c.of.result c.of.ensures names coming
-
-pub returns-clause-marks : goal.returns-clause-marks
-returns-clause-marks g c =
-    let had = fired_of c.args.self.index.members in
-    ap (λ (h : Held _). fired_of h.index.members) c.of.ensures
-    ∙ marks_left (record { matcher = c.self.inside.matcher; index = c.self.inside.index.value; firings = c.self.inside.firings }) c.args.self c.self.view_is c.self.invariant.in_order
-    c.args.program.now.rules c.as_slice.result.now c.as_slice-2.result.now c.apply.new.self (rw c.as_mut.ensures.value at c.in_ok-apply.ensures.ok)
-    ∙ ap (λ gone. without_gone gone had) (c.as_slice.ensures.value ∙ sym c.from_vec.ensures)
