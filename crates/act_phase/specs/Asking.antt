@@ -1,4 +1,4 @@
--- Where `accept` stands.
+-- Which actions contain `accept`.
 use Rattle.std.specs.Prelude.{ℕ, List, [], ◌∷◌, Bool, true, false, ◌&&◌, ◌||◌}
 use Rattle.std.specs.List.{list_any}
 use Rattle.ops_base.specs.declared.actions.Term.{Term}
@@ -27,7 +27,7 @@ abbrev pub item_asks : Item → Bool
 item_asks (item.Print t) = term_asks t
 item_asks _ = false
 
--- `accept` stands in the action
+-- the action contains `accept`
 abbrev pub action_asks : Action → Bool
 action_asks (action.Make class puts) = list_any put_asks puts
 action_asks (action.Modify cell puts) = list_any put_asks puts
@@ -49,24 +49,24 @@ action_changes (action.Cbind cell) = false
 action_changes action.Halt = false
 action_changes (action.Build template holes) = false
 
--- `accept` stands in one of these actions after one that may change working memory, or where it was changed before them
+-- one of these actions contains `accept`, and comes after one that may change working memory or after an earlier change
 abbrev pub asks_after : Bool → List Action → Bool
 asks_after changed [] = false
 asks_after changed (a ∷ rest) = (changed && action_asks a) || asks_after (changed || action_changes a) rest
 
--- it stands in the right side of the production with this number
+-- the right side of the production with this number contains it
 abbrev pub right_side_asks : List Rule → ℕ → Bool
 right_side_asks rules n = list_any action_asks (actions_of rules n)
 
--- it stands in the right side of the production
+-- the right side of the production contains it
 abbrev pub rule_asks : Rule → Bool
 rule_asks r = list_any action_asks r.actions
 
--- it stands in a right side of these productions
+-- a right side of these productions contains it
 abbrev pub program_asks : List Rule → Bool
 program_asks rules = list_any rule_asks rules
 
--- it stands in the right side of a production that the command adds
+-- the right side of a production that the command adds contains it
 abbrev pub command_asks : Command → Bool
 command_asks (command.Add r) = rule_asks r
 command_asks (command.Make class puts) = false
@@ -85,6 +85,6 @@ command_asks (command.Back count) = false
 command_asks (command.Matches names) = false
 command_asks command.Exit = false
 
--- it stands in a right side of these productions, or of one that these commands add
+-- a right side of these productions contains it, or that of a production that these commands add
 abbrev pub session_asks : List Rule → List Command → Bool
 session_asks rules commands = program_asks rules || list_any command_asks commands

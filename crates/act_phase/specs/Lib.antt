@@ -1,4 +1,4 @@
--- What the contracts of right sides cite.
+-- What the contracts of right sides refer to.
 pub mod Asking
 pub mod Changed
 pub mod Deeds

@@ -1,4 +1,4 @@
--- What the answers of a right side and of its actions stand for.
+-- What the results of a right side and of its actions mean.
 use Rattle.std.specs.Prelude.{ℕ, ◌-◌, Bool, true, false, Result, Ok, Err}
 use Rattle.ops_base.specs.Names.{Spellings}
 use Rattle.ops_base.specs.declared.programs.Program.{Program}
@@ -12,7 +12,7 @@ use Rattle.act_phase.specs.declared.outcome.Acted.{Acted}
 use Rattle.act_phase.specs.declared.outcome.ActionError.{ActionError}
 use Rattle.act_phase.specs.declared.outcome.ActionError.TheVariants as mishap
 
--- what a right side of a program stands in at this trace level
+-- the setting of a right side of the program at this trace level
 abbrev pub setting_of : Program → ℕ → Setting
 setting_of p watch = record { classes = p.classes; rules = p.rules; text = p.text; watch = watch }
 
@@ -25,14 +25,14 @@ failure_of fault.Read = OfEffect NoInput
 failure_of fault.Write = OfPort stop.Write
 failure_of fault.OutOfMemory = OfPort stop.OutOfMemory
 
--- the same of one action
+-- the same for one action
 abbrev pub mishap_of : ActionError → Failure Missed
 mishap_of (mishap.Fault kind) = OfEffect (Fault kind)
 mishap_of mishap.Read = OfEffect Unread
 mishap_of mishap.Write = OfPort stop.Write
 mishap_of mishap.OutOfMemory = OfPort stop.OutOfMemory
 
--- ---- whether a read has failed
+-- ---- whether a read failed
 
 abbrev pub is_read : ActFault → Bool
 is_read (fault.Bad action kind) = false
@@ -46,7 +46,7 @@ is_read_mishap mishap.Read = true
 is_read_mishap mishap.Write = false
 is_read_mishap mishap.OutOfMemory = false
 
--- it failed, and for a reason that passes the test
+-- it failed, for a reason that passes the test
 abbrev pub fails_by : {X F : Type 0} → (F → Bool) → Result X F → Bool
 fails_by test (Ok x) = false
 fails_by test (Err f) = test f

@@ -1,4 +1,4 @@
--- What the state of a right side in the code stands for.
+-- What the state of a right side in the code means.
 use Rattle.std.specs.Prelude.{ℕ, List, [], ◌∷◌, Bool, true, nat_lt, slice_get, option_map, unwrap_or}
 use Rattle.ops_base.specs.Names.{Spellings}
 use Rattle.ops_base.specs.declared.actions.Action.{Action}
@@ -14,8 +14,8 @@ use Rattle.act_phase.specs.declared.state.Cell.TheVariants as cell
 use Rattle.act_phase.specs.declared.values.Values.{Values}
 use Rattle.act_phase.specs.declared.values.Values.TheVariants as values
 
--- what the right side stands in, working memory and its changes so far, what the variables are bound to, the elements
--- that the cells hold, and whether `halt` was done
+-- the setting of the right side, working memory and its changes so far, the bindings of the variables, the elements
+-- that the cells hold, and whether a `halt` was done
 pub record State : Type 0 where
   pub setting : Setting
   pub working : Changed
@@ -27,13 +27,13 @@ pub record State : Type 0 where
 abbrev pub made_at : List Change → ℕ → Element
 made_at changes place = unwrap_or (option_map (made_by no_element) (slice_get changes place)) no_element
 
--- the element that a cell holds, where these changes were made
+-- the element that a cell holds, if these are the changes made so far
 abbrev pub held_by : List Change → Cell → Element
 held_by changes (cell.Matched e) = e.now
 held_by changes (cell.Made place) = made_at changes place
 held_by changes cell.Nothing = no_element
 
--- the change that a cell names is among this many
+-- if the cell refers to a change, it is among the first `n`
 abbrev pub is_there : ℕ → Cell → Bool
 is_there n (cell.Matched e) = true
 is_there n (cell.Made place) = nat_lt place n
@@ -45,7 +45,7 @@ pub record Between : Type 0 where
   pub actions : List Action
   pub done : ℕ
 
--- with these names in use, and this input still to come
+-- the meaning of the state, with these names in use and this input still to come
 abbrev pub doing_of : State → Spellings → Coming → Meant
 doing_of d names coming =
     record {
@@ -59,7 +59,7 @@ doing_of d names coming =
       coming = coming;
     }
 
--- the element of a cell, whatever names are in use
+-- the element of a cell, which does not depend on the names
 abbrev pub held_in : State → ℕ → Element
 held_in d cell = unwrap_or (slice_get d.cells cell) no_element
 

@@ -1,4 +1,4 @@
-//! `Acting`, a right side that is done one action at a time.
+//! `Acting`, a right side that is executed one action at a time.
 ghost use Rattle.std.specs.Prelude.{◌≡◌, ◌+◌, ◌-◌, ◌^◌, ◌<◌, [], true, false, length, drop, slice_get, IsTrue, IfOk, OnOk, Some};
 ghost use Rattle.ops_base.specs.Names.{Spellings};
 ghost use Rattle.ops_base.specs.declared.actions.Action.{Action};
@@ -24,8 +24,8 @@ use std::alloc::Global;
 use std::marker::Model;
 use work_store::Store;
 
-/// A right side between two of its actions. It borrows the program and the store of the elements that it looks up,
-/// which may be an excerpt of working memory.
+/// A right side between two of its actions. It borrows the program and the store in which it looks elements up. The
+/// store may be an excerpt of working memory.
 #[derive(Drop)]
 pub struct Acting<'s> {
     doing: ActState<'s>,
@@ -46,7 +46,7 @@ impl<'s> Model for Acting<'s> {
 }
 
 impl<'s> Acting<'s> {
-    /// Nothing is done yet. Copies no element.
+    /// No action is done yet. Copies no element.
     pub fn begin(
         alloc: Global,
         program: &'s Program,
@@ -72,7 +72,7 @@ impl<'s> Acting<'s> {
         })
     }
 
-    /// The actions that are left.
+    /// The actions that are still to be done.
     pub fn left(&self) -> &'s [Action]
         ensures { result.now ≡ drop self.now.done self.now.actions }
     {
@@ -89,7 +89,7 @@ impl<'s> Acting<'s> {
         self.doing.changes()
     }
 
-    /// Does the next action. After a refusal it is not used again.
+    /// Does the next action. After a refusal it must not be used again.
     pub fn next<I: Source, K: Sink>(
         &mut self,
         names: &mut Names,
@@ -124,7 +124,7 @@ impl<'s> Acting<'s> {
         Ok(())
     }
 
-    /// What was done so far. Takes no memory.
+    /// The result of the actions done so far. Allocates nothing.
     pub fn finish(self) -> Acted
         ensures left { (names : Spellings) (coming : Coming) → acted_of result names coming ≡ left_by (doing_of self.entry.state names coming) }
         ensures positive { 0 < result.next_tag }

@@ -1,4 +1,4 @@
-//! What `accept` gives.
+//! What `accept` returns.
 ghost use Rattle.std.specs.Prelude.{◌≡◌, ◌^◌, ◌<◌, [], true, IsTrue};
 ghost use Rattle.ops_meaning.specs.Effects.{silent};
 ghost use Rattle.ops_tokens.specs.Accepting.{accepted};
@@ -13,8 +13,8 @@ use ops_io::{Input, Out, Sink, Source};
 use ops_tokens::{AcceptFault, accept_atom};
 use std::alloc::Global;
 
-/// Reads one atom. Before that all that was put is written: a person sees the question before the answer is waited for.
-/// So where the read fails nothing is held.
+/// Reads one atom. Everything that was put is written first, so that a person sees the question before the program
+/// waits for the answer. So if the read fails, nothing is held in the buffer.
 pub(crate) fn accept<I: Source, K: Sink>(
     alloc: Global,
     names: &mut Names,

@@ -27,7 +27,7 @@ fn is_one_of(values: &[Value], value: Value) -> bool
     values.iter().any(|each| value == *each)
 }
 
-/// Whether a test that does not bind holds of a value.
+/// Whether a test that binds nothing holds of a value.
 fn meets(test: &Test, value: Value, bindings: &[Binding]) -> bool
     ensures { result ≡ operand_holds test.now.pred value test.now.operand bindings.now }
 {
@@ -41,7 +41,7 @@ fn meets(test: &Test, value: Value, bindings: &[Binding]) -> bool
     }
 }
 
-/// Does one test, and adds what it binds. Answers whether it holds.
+/// Performs one test, and adds the binding that it makes. Returns whether the test holds.
 fn pass(test: &Test, e: &Element, bindings: &mut Vec<Binding>) -> Result<bool, OutOfMemory>
     ensures after { IfOk result (λ b. after_test test.now e.now bindings.old.items ≡ (if b then Some bindings.new.items else None)) }
     ensures adds { OnOk result (bindings.new.items
@@ -58,8 +58,8 @@ fn pass(test: &Test, e: &Element, bindings: &mut Vec<Binding>) -> Result<bool, O
     Ok(true)
 }
 
-/// Does tests up to the first that does not hold, and adds what they bind. Where one does not hold, the bindings are cut
-/// back to what they were.
+/// Performs tests up to the first that fails, and adds their bindings. If one fails, the bindings are truncated to what
+/// they were before.
 fn bind_tests(tests: &[Test], e: &Element, bindings: &mut Vec<Binding>) -> Result<(), OutOfMemory>
     ensures { OnOk result (bindings.new.items ≡ unwrap_or (after_tests tests.now e.now bindings.old.items) bindings.old.items) }
 {
@@ -74,8 +74,8 @@ fn bind_tests(tests: &[Test], e: &Element, bindings: &mut Vec<Binding>) -> Resul
 }
 
 #[tactic(auto, using(crate::proofs::Unbound::unbound))]
-/// Adds what a condition binds of the element of a tag. Where no test binds, nothing is looked up, and it takes no
-/// memory.
+/// Adds the bindings that a condition makes from the element with this tag. If no test of the condition binds a
+/// variable, it looks nothing up and allocates nothing.
 fn bind_condition(
     condition: &Condition,
     store: &Store,
@@ -96,9 +96,9 @@ fn bind_condition(
     bind_tests(condition.tests.as_slice(), e, bindings)
 }
 
-/// The bindings that the elements of these tags give, one for each positive condition, in a list with room for `room`.
-/// Only an element whose condition binds a variable is looked up by its tag and does the tests once more, and no binding
-/// is copied. A group takes no tag and binds nothing.
+/// The bindings made from the elements with these tags, one tag for each positive condition, in a list with room for
+/// `room`. An element is looked up by its tag and tested once more only if its condition binds a variable. No binding
+/// is copied. A group has no tag and binds nothing.
 pub(crate) fn bindings_of(
     alloc: Global,
     store: &Store,

@@ -1,4 +1,4 @@
-//! `ChangedMemory`, the working memory that a right side changes: the store that it began with, and its changes so far.
+//! `ChangedMemory`, the working memory that a right side changes: the store at its start, and its changes so far.
 ghost use Rattle.std.specs.Prelude.{◌≡◌, ◌+◌, ◌-◌, ◌<◌, OnOk, Some, slice_get, take, unwrap_or};
 ghost use Rattle.std.specs.Option.{option_copied};
 ghost use Rattle.ops_base.specs.WorkingMemory.{done};
@@ -15,13 +15,13 @@ use std::alloc::Global;
 use std::marker::Model;
 use work_store::Store;
 
-/// The changes of a right side so far, seen as those and the working memory that they began with. That is not copied:
-/// an element is present where it is in the store or was added, and was not removed.
+/// The changes of a right side so far. Its view is those changes and the working memory at the start, which is not
+/// copied: an element is present if it is in the store or was added, and was not removed.
 #[derive(Drop)]
 pub(crate) struct ChangedMemory<'s> {
     store: &'s Store,
     changes: Vec<Change>,
-    // The tags that were removed.
+    // The tags of the removed elements.
     gone: RemovedTags,
     first_tag: u64,
     next_tag: u64,
@@ -38,7 +38,7 @@ impl<'s> Model for ChangedMemory<'s> {
     ghost invariant = { λ w. AreCounted w.store.now.elements w.changes.items (is_among w.gone) w.first_tag w.next_tag };
 }
 
-/// The element that a change adds, where it has this tag.
+/// The element that a change adds, if it has this tag.
 fn added_by(tag: u64, change: &Change) -> Option<&Element>
     ensures { option_copied result ≡ added_by tag change.now }
 {
@@ -49,7 +49,7 @@ fn added_by(tag: u64, change: &Change) -> Option<&Element>
 }
 
 #[tactic(auto, using(crate::proofs::Found::last_added_push))]
-/// The element of this tag that was added last. Looks at the changes since then.
+/// The element with this tag that was added last. Scans the changes since then.
 fn last_added(changes: &[Change], tag: u64) -> Option<&Element>
     ensures { option_copied result ≡ last_added changes.now tag }
 {
@@ -64,12 +64,12 @@ fn last_added(changes: &[Change], tag: u64) -> Option<&Element>
 }
 
 impl<'s> ChangedMemory<'s> {
-    /// Nothing is changed yet. Takes no memory.
+    /// Nothing is changed yet. Allocates nothing.
     pub(crate) fn new(alloc: Global, store: &'s Store, next_tag: u64) -> ChangedMemory<'s>
         requires { store.now.last < next_tag }
         ensures { result ≡ unchanged store.now.elements (next_tag - 1) }
     {
-        // only the proof needs this: the store is looked at for what it keeps true
+        // only the proof needs this: it reads the store to get at the store's invariant
         let last = store.last();
         prove!(last < next_tag);
         ChangedMemory {
@@ -81,8 +81,8 @@ impl<'s> ChangedMemory<'s> {
         }
     }
 
-    /// Takes a time that grows with the logarithm of the number of removals, where there are more than eight. An
-    /// element that was made here is not looked up.
+    /// Whether an element with this tag is present. With more than eight removals, takes time logarithmic in their
+    /// number. An element that was made here is not looked up.
     fn is_present(&self, tag: u64) -> bool
         ensures { result ≡ has_tag (memory_of self.now) tag }
     {
@@ -95,7 +95,7 @@ impl<'s> ChangedMemory<'s> {
         self.store.get(tag).is_some()
     }
 
-    /// Removes the element of a tag, where it is present.
+    /// Removes the element with this tag, if it is present.
     pub(crate) fn remove(&mut self, tag: u64) -> Result<(), OutOfMemory>
         ensures does { OnOk result (self.new ≡ with_removed self.old tag) }
         ensures goes_on { GoesOnTo self.old self.new }
@@ -111,7 +111,7 @@ impl<'s> ChangedMemory<'s> {
         Ok(())
     }
 
-    /// Adds an element with the next tag. A session is over long before the tags are.
+    /// Adds an element with the next tag. No session lasts long enough to use up the tags.
     pub(crate) fn add(&mut self, class: usize, fields: Listed<Value>) -> Result<(), OutOfMemory>
         ensures does { OnOk result (self.new ≡ with_added self.old (record { tag = self.old.last + 1; class = class; fields = fields })) }
         ensures goes_on { GoesOnTo self.old self.new }
@@ -143,8 +143,9 @@ impl<'s> ChangedMemory<'s> {
         self.changes.as_slice()
     }
 
-    /// The element that the removal of this tag took out, which is the change at this place. One that was there at the
-    /// start is looked up in the store. For one that was made here it goes back over the changes to where it was made.
+    /// The element that the removal of this tag removed. The removal is the change at this place. An element that was
+    /// present at the start is looked up in the store. For one that was made here, the changes are searched backwards
+    /// to the one that made it.
     pub(crate) fn removed_at(&self, place: usize, tag: u64) -> &Element
         requires { slice_get self.now.changes place ≡ Some (Change.Remove tag) }
         ensures { element_of (done self.now.start (take place self.now.changes)) tag ≡ Some result.now }

@@ -10,7 +10,7 @@ use ops_base::rules::Inst;
 use std::alloc::Global;
 use work_store::Store;
 
-/// The tags by their size.
+/// The tags in ascending order.
 fn sorted(alloc: Global, tags: &[u64]) -> Result<Vec<u64>, OutOfMemory>
     ensures moved { IfOk result (λ v. IsPermutation tags.now v.items) }
     ensures sorted { IfOk result (λ v. IsSorted nat_cmp v.items) }
@@ -20,7 +20,7 @@ fn sorted(alloc: Global, tags: &[u64]) -> Result<Vec<u64>, OutOfMemory>
     Ok(sorted)
 }
 
-/// Copies the element of a tag, where it is there and above those that were copied.
+/// Copies the element with this tag, if there is one and the tag is above those copied before.
 fn add_copy(alloc: Global, store: &Store, tag: u64, excerpt: &mut Store) -> Result<(), OutOfMemory>
     ensures { OnOk result (excerpt.new ≡ with_copy store.now.elements tag excerpt.old) }
 {
@@ -33,14 +33,14 @@ fn add_copy(alloc: Global, store: &Store, tag: u64, excerpt: &mut Store) -> Resu
     excerpt.add(element.copy(alloc)?)
 }
 
-/// The elements of an instantiation, in a store of their own. Copies each of them once. Beside them it takes memory in
-/// proportion to the greatest of their tags over 4,096.
+/// The elements of an instantiation, in a store of their own. Copies each of them once. In addition it takes memory in
+/// proportion to their greatest tag divided by 4,096.
 pub fn excerpt(alloc: Global, store: &Store, inst: &Inst) -> Result<Store, OutOfMemory>
     requires above { All (λ t. 0 < t) (tags_of store.now.elements) }
     ensures excerpt { IfOk result (λ s. IsExcerpt store.now.elements s.elements inst.now.tags) }
     ensures last { IfOk result (λ s. s.last ≤ store.now.last) }
 {
-    // the store is looked at for what it keeps true
+    // reads the store to get at its invariant
     let _last = store.last();
     let tags = sorted(alloc, inst.tags.as_slice())?;
     let mut excerpt = Store::new(alloc);

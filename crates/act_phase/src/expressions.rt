@@ -1,4 +1,4 @@
-//! What `compute` gives: a loop over the steps of an expression, with its operands on a stack.
+//! The value of a `compute`: a loop over the steps of an expression, with its operands on a stack.
 ghost use Rattle.std.specs.Prelude.{◌≡◌, ◌+ℤ◌, ◌-ℤ◌, ◌*ℤ◌, int_div, IfOk, OnOk, Ok, [], ◌∷◌, ◌++◌, reverse, unwrap_or};
 ghost use Rattle.ops_base.specs.Matching.{value_of};
 ghost use Rattle.ops_base.specs.Values.{nil};
@@ -14,8 +14,9 @@ use smallvec::SmallVec;
 use std::alloc::Global;
 use std::marker::Model;
 
-/// How many operands the stack holds before it takes memory. Operations in a row keep two on it, and each bracket on the
-/// right may keep one more. A larger stack would cost each `compute` more: it is made anew for each.
+/// How many operands the stack holds before it allocates. A chain of operations keeps two on it, and each parenthesis
+/// on the right may keep one more. A larger number would make each `compute` slower, because each one creates its own
+/// stack.
 const OPERANDS: usize = 4;
 
 /// A number, or the fault of an operation.
@@ -61,7 +62,7 @@ fn quotient(a: i128, b: i128) -> Computed
     }
 }
 
-/// With the sign of the dividend. One by -1 is 0, also of the least number.
+/// Has the sign of the dividend. The remainder by -1 is 0, even for the least number.
 fn remainder(a: i128, b: i128) -> Computed
     ensures { result ≡ operated Op.Rem a b }
 {
@@ -84,7 +85,7 @@ fn calculate(op: Op, a: i128, b: i128) -> Computed
     }
 }
 
-/// An operation on what its operands gave, of which the right one was computed first.
+/// Applies an operation to the results of its operands. The right operand was computed first.
 fn apply(op: Op, left: Computed, right: Computed) -> Computed
     ensures { result ≡ applied op left right }
 {
@@ -95,7 +96,7 @@ fn apply(op: Op, left: Computed, right: Computed) -> Computed
     }
 }
 
-/// What one operand gave. A contract sees it as that result alone, and not as a struct.
+/// The result of one operand. In contracts it is that result alone, not a struct.
 #[derive(Drop)]
 struct Operand {
     given: Computed,
@@ -127,7 +128,7 @@ fn put(stack: &mut Operands, given: Computed) -> Result<(), OutOfMemory>
     Ok(())
 }
 
-/// Does an operation on the two operands that were put last, the left one after the right one.
+/// Applies an operation to the two operands on top of the stack; the left one is on top of the right one.
 fn operate(stack: &mut Operands, op: Op) -> Result<(), OutOfMemory>
     ensures { OnOk result (reverse stack.new.items ≡ operate (applied op) (reverse stack.old.items)) }
 {
@@ -142,7 +143,7 @@ fn operate(stack: &mut Operands, op: Op) -> Result<(), OutOfMemory>
     Ok(())
 }
 
-/// One step on the stack.
+/// Performs one step on the stack.
 fn step(stack: &mut Operands, bindings: &[Binding], step: Step) -> Result<(), OutOfMemory>
     ensures { OnOk result (reverse stack.new.items
         ≡ after_step (λ n. Ok (Value.Whole n)) (λ v. Ok (unwrap_or (value_of bindings.now v) nil)) applied step (reverse stack.old.items)) }
@@ -157,7 +158,8 @@ fn step(stack: &mut Operands, bindings: &[Binding], step: Step) -> Result<(), Ou
     }
 }
 
-/// What an expression gives. Takes time in proportion to its operations, and to the bindings for each variable.
+/// The value of an expression. Takes time in proportion to the number of its operations, and for each variable in
+/// proportion to the number of bindings.
 #[tactic(auto, using(crate::proofs::Computed::comes_first, crate::proofs::Computed::comes_last))]
 pub(crate) fn compute(
     alloc: Global,

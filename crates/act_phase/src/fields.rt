@@ -31,7 +31,7 @@ fn is_vector(classes: &[Class], class: usize, field: usize) -> bool
     }
 }
 
-/// Takes the values of the vector attribute away, where this is its first field.
+/// Removes the values of the vector attribute, if this is its first field.
 fn empty_vector(doing: &ActState<'_>, class: usize, field: usize, fields: &mut Vec<Value>)
     ensures { fields.new.items ≡ emptied (class_of doing.now.setting.classes class) field fields.old.items }
 {
@@ -40,7 +40,7 @@ fn empty_vector(doing: &ActState<'_>, class: usize, field: usize, fields: &mut V
     }
 }
 
-/// The fields of an element for which no value was given.
+/// The fields of an element to which no value was given.
 fn no_fields(doing: &ActState<'_>, class: usize) -> Result<Vec<Value>, OutOfMemory>
     ensures { IfOk result (λ v. v.items ≡ no_fields (class_of doing.now.setting.classes class)) }
 {
@@ -63,7 +63,7 @@ fn place_value(fields: &mut Vec<Value>, at: usize, value: Value) -> Result<(), O
     Ok(())
 }
 
-/// Places values from a field on.
+/// Places values from this field onwards.
 fn place_values(fields: &mut Vec<Value>, from: usize, values: &[Value]) -> Result<(), ActionError>
     ensures { Gives (λ _. fields.new.items) result (fields_found (values_placed from values.now fields.old.items)) }
 {
@@ -78,7 +78,7 @@ fn place_values(fields: &mut Vec<Value>, from: usize, values: &[Value]) -> Resul
     Ok(())
 }
 
-/// Gives one attribute the values of its terms. Those of each term are placed before the next one is evaluated.
+/// Gives one attribute the values of its terms. The values of each term are placed before the next term is evaluated.
 fn place_put<I: Source, K: Sink>(
     doing: &ActState<'_>,
     names: &mut Names,
@@ -148,7 +148,7 @@ fn fields_of(doing: &ActState<'_>, cell: usize) -> Result<Vec<Value>, OutOfMemor
     Ok(fields)
 }
 
-/// The fields of a cell's element with those that are given in their place.
+/// The fields of a cell's element, with the given values in place of the old ones.
 pub(crate) fn modified_fields<I: Source, K: Sink>(
     doing: &ActState<'_>,
     names: &mut Names,

@@ -1,4 +1,4 @@
-//! What `write` puts.
+//! What `write` prints.
 ghost use Rattle.std.specs.Prelude.{◌≡◌, ◌^◌, ◌<◌, ℕ, [], true, IsTrue, OnErr, false, length};
 ghost use Rattle.ops_io.specs.Ports.{port, PutsBytes};
 ghost use Rattle.std.specs.List.{list_any};
@@ -20,7 +20,7 @@ use ops_base::values::Value;
 use ops_io::{Input, Out, Sink, Source, WriteFailed};
 use ops_print::{Lead, put_lead, put_tab, put_value, value_length};
 
-/// The length of a value, where its lead asks for that.
+/// The length of a value, if its lead needs it.
 fn length_for(names: &Names, lead: Lead, value: &Value) -> usize
     ensures { (column : ℕ) → lead_bytes (lead_of lead) column result
         ≡ lead_bytes (lead_of lead) column (length (value_text names.now value.now)) }
@@ -49,7 +49,7 @@ fn put_led<K: Sink>(
     put_value(out, sink, names, value)
 }
 
-/// Puts values, the first after this lead and the others apart.
+/// Puts values: the first after this lead, the others apart.
 fn put_values<K: Sink>(
     out: &mut Out,
     sink: &mut K,
@@ -71,7 +71,7 @@ fn put_values<K: Sink>(
     Ok(())
 }
 
-/// What an item leaves to a value after it.
+/// The lead that an item leaves to the value after it.
 fn lead_after(item: &Item) -> Lead
     ensures { lead_of result ≡ lead_after item.now }
 {
@@ -82,7 +82,7 @@ fn lead_after(item: &Item) -> Lead
     }
 }
 
-/// Puts the values of a term. They are evaluated before the first one is put.
+/// Puts the values of a term. All of them are evaluated before the first one is put.
 fn print<I: Source, K: Sink>(
     doing: &ActState<'_>,
     names: &mut Names,

@@ -1,4 +1,4 @@
-//! A law that holds of the definitions alone: the contract of a function that does nothing.
+//! A law about the definitions alone, stated as the contract of a function that does nothing.
 ghost use Rattle.std.specs.Prelude.{◌≡◌, ◌<◌, ℕ, List, All};
 ghost use Rattle.ops_base.specs.declared.elements.Element.{Element};
 ghost use Rattle.ops_base.specs.declared.rules.Inst.{Inst};
@@ -9,8 +9,8 @@ ghost use Rattle.ops_meaning.specs.Acting.{Setting, acted};
 ghost use Rattle.ops_meaning.specs.Kept.{WellKept};
 ghost use Rattle.act_phase.specs.Excerpts.{IsExcerpt};
 
-/// A right side over an excerpt of working memory writes the same, ends the same and leaves the same as over the whole:
-/// it looks up no other elements.
+/// Over an excerpt of working memory, a right side writes the same, ends the same and leaves the same as over the
+/// whole, because it looks up no other elements.
 pub fn an_excerpt_is_enough()
     ensures { (s : Setting) (column : ℕ) (i : Inst) (whole part : List Element) (last : ℕ) (names : Spellings) (coming : Coming)
         → WellKept whole last → All (λ t. 0 < t) (tags_of whole) → IsExcerpt whole part i.tags

@@ -1,12 +1,12 @@
-//! The right side of an instantiation, done over a store of working memory.
+//! Executes the right side of an instantiation over a store of working memory.
 //!
-//! The definitions of what a right side does are total, and so are the functions here: where a number is of no
-//! production, no class, no cell or no bound variable, they give an empty list, 0 or `nil`, as the definitions do. A
-//! program that was checked never comes there.
+//! The definitions of what a right side does are total, and so are the functions here: if a number denotes no
+//! production, class, cell or bound variable, they return an empty list, 0 or `nil`, as the definitions do. In a
+//! checked program this never happens.
 //!
-//! `ActState` has the program, the trace level and the allocator. `names`, `input`, `source`, `out` and `sink` go from
-//! call to call, each as a parameter of its own: each is lent by itself, so that a contract can name what each holds
-//! afterwards.
+//! `ActState` has the program, the trace level and the allocator. `names`, `input`, `source`, `out` and `sink` are
+//! passed from call to call, each as a parameter of its own: each is borrowed separately, so that a contract can name
+//! the contents of each after the call.
 #![tactic(auto)]
 
 mod acting;

@@ -1,4 +1,4 @@
-//! What a right side answers.
+//! The results of a right side.
 ghost use Rattle.std.specs.Prelude.{◌≡◌};
 ghost use Rattle.ops_meaning.specs.Acting.{in_action};
 ghost use Rattle.ops_meaning.specs.Effects.{failure_as};
@@ -20,7 +20,7 @@ pub struct Acted {
     pub next_tag: u64,
 }
 
-/// Why a right side was not done to its end.
+/// Why a right side was not completed.
 #[derive(Clone, Copy, Debug, PartialEq, Eq, Error)]
 pub enum ActFault {
     /// The action with this number, counted from 1, can't be done.
@@ -37,7 +37,7 @@ pub enum ActFault {
     OutOfMemory,
 }
 
-/// Why an action was not done to its end.
+/// Why an action was not completed.
 #[derive(Clone, Copy, Debug, PartialEq, Eq)]
 pub(crate) enum ActionError {
     /// It can't be done.
@@ -85,7 +85,7 @@ impl From<WriteFailed> for ActionError {
 impl ActionError {
     ghost use Rattle.act_phase.specs.Outcomes.{failure_of, mishap_of, is_read, is_read_mishap};
 
-    /// The same, of the action with this number.
+    /// The same fault, as one of the action with this number.
     pub(crate) fn in_action(self, number: usize) -> ActFault
         ensures failure { failure_of result ≡ failure_as (in_action number) (mishap_of self) }
         ensures read { is_read result ≡ is_read_mishap self }

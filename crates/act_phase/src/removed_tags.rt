@@ -8,10 +8,10 @@ use smallvec::SmallVec;
 use std::alloc::Global;
 use std::collections::BTreeSet;
 
-/// How many tags take no memory. Few right sides remove more elements.
+/// How many tags fit without an allocation. Few right sides remove more elements.
 const FEW_TAGS: usize = 8;
 
-/// Tags that were removed: the first few where they stand, and only those beyond in a set, which takes memory for each.
+/// Tags that were removed: the first few are stored inline, and only the others in a set, which takes memory for each.
 #[derive(Drop)]
 pub(crate) struct RemovedTags {
     few: SmallVec<u64, FEW_TAGS>,
@@ -35,14 +35,14 @@ impl RemovedTags {
         }
     }
 
-    /// Looks at the first few, and takes a time that grows with the logarithm of the number of the others.
+    /// Scans the first few tags. Takes time logarithmic in the number of the others.
     pub(crate) fn contains(&self, tag: u64) -> bool
         ensures { result ≡ is_among self.now tag }
     {
         is_one_of(self.few.as_slice(), tag) || self.more.contains(&tag)
     }
 
-    /// A tag more. Takes memory only where there are a few already.
+    /// Adds a tag. Allocates only if `FEW_TAGS` tags are there already.
     pub(crate) fn insert(&mut self, tag: u64) -> Result<(), OutOfMemory>
         ensures ok { OnOk result ((t : ℕ) → is_among self.new t ≡ (if t == tag then true else is_among self.old t)) }
         ensures err { OnErr result (self.new ≡ self.old) }

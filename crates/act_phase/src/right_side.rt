@@ -1,4 +1,4 @@
-//! `act`, which does a right side: its actions in order, and each kind of action with what it puts and reads.
+//! `act`, which executes a right side: its actions in order, and for each kind of action what it prints and reads.
 ghost use Rattle.std.specs.Prelude.{◌≡◌, ◌^◌, ◌<◌, ◌-◌, ◌≤◌, [], true, IsTrue, IfOk, OnOk, fold, false};
 ghost use Rattle.std.specs.List.{list_any};
 ghost use Rattle.ops_base.specs.Names.{Spellings};
@@ -31,7 +31,7 @@ use ops_io::{Input, Out, Sink, Source};
 use std::alloc::Global;
 use work_store::Store;
 
-/// Makes an element, once all its values are placed.
+/// Makes an element, after all its values are placed.
 fn make<I: Source, K: Sink>(
     doing: &mut ActState<'_>,
     names: &mut Names,
@@ -59,7 +59,7 @@ fn make<I: Source, K: Sink>(
     Ok(doing.make(class, fields)?)
 }
 
-/// Puts a copy with other fields in the place of a cell's element, once all its values are placed.
+/// Replaces a cell's element with a copy that has other fields, after all its values are placed.
 fn modify<I: Source, K: Sink>(
     doing: &mut ActState<'_>,
     names: &mut Names,
@@ -87,7 +87,7 @@ fn modify<I: Source, K: Sink>(
     Ok(doing.modify(cell, fields)?)
 }
 
-/// Binds a variable to the first value of a term, `nil` where it has none.
+/// Binds a variable to the first value of a term, or to `nil` if the term has no value.
 fn bind<I: Source, K: Sink>(
     doing: &mut ActState<'_>,
     names: &mut Names,
@@ -128,7 +128,7 @@ fn remove(doing: &mut ActState<'_>, cells: &[usize]) -> Result<(), OutOfMemory>
     Ok(())
 }
 
-/// Makes an element, and prints it where elements are traced.
+/// Makes an element, and prints it if elements are traced.
 fn make_and_tell<I: Source, K: Sink>(
     doing: &mut ActState<'_>,
     names: &mut Names,
@@ -155,7 +155,7 @@ fn make_and_tell<I: Source, K: Sink>(
     Ok(tell_changes(doing, names, since, out, sink)?)
 }
 
-/// Puts a copy with other fields in the place of a cell's element, and prints both where elements are traced.
+/// Replaces a cell's element with a copy that has other fields, and prints both if elements are traced.
 fn modify_and_tell<I: Source, K: Sink>(
     doing: &mut ActState<'_>,
     names: &mut Names,
@@ -229,7 +229,7 @@ fn act_one<I: Source, K: Sink>(
             doing.halt();
             Ok(())
         }
-        // no text is read as one yet
+        // no source text is read as a `build` yet
         Action::Build { .. } => Ok(()),
     }
 }
@@ -299,11 +299,11 @@ fn act_all<I: Source, K: Sink>(
 }
 
 /// Does the right side of an instantiation, whose first new element gets the tag `next_tag`. The store is only read: an
-/// element of the left side is looked up there, and its fields are copied only where it is modified. Before an `accept`
-/// all that was put is written. Where `watch` is 2, what an action has removed and made is printed once it is done: an
-/// element of the left side is looked up in the store for that, and for one that the right side has made itself it goes
-/// back over the changes to where it was made. A session is over long before the tags are, so that one beyond 64 bits
-/// is answered as out of memory.
+/// element of the left side is looked up there, and its fields are copied only if it is modified. Before an `accept`,
+/// everything that was put is written. If `watch` is 2, the elements that an action removed and made are printed after
+/// the action. For that, an element of the left side is looked up in the store; for one that the right side made
+/// itself, the changes are searched backwards to the one that made it. No session lasts long enough to use up the tags;
+/// a tag beyond 64 bits is reported as out of memory.
 pub fn act<I: Source, K: Sink>(
     alloc: Global,
     program: &Program,
@@ -331,21 +331,21 @@ pub fn act<I: Source, K: Sink>(
     ensures tag { IfOk result (λ a. next_tag ≤ a.next_tag) }
     ensures reads { CountsReads (is_unread result) (I.faults source.old) (I.faults source.new) }
 
-    // Where a read fails, all that was put before is written out.
+    // If a read fails, everything that was put before is written.
     ensures written { is_unread result ≡ true → out.new.held ≡ [] }
 
-    // Where no `accept` stands in it, the input is left as it was.
+    // If the right side has no `accept`, the input is unchanged.
     ensures untouched { right_side_asks program.now.rules inst.now.rule ≡ false → (input.new ≡ input.old) × (source.new ≡ source.old) }
 
-    // Each symbol keeps its spelling, also after a fault.
+    // Each symbol keeps its spelling, even after a fault.
     ensures names { KeepsNames names.old names.new }
 
-    // Where the names hold each symbol of the program and of the store, they hold after it also those of what the
-    // changes make.
+    // If the names hold each symbol of the program and of the store before the call, they still do after it, and they
+    // hold each symbol of the elements that the changes make.
     ensures held { HoldsProgram names.old program.now → HoldsElements names.old store.now.elements
         → HoldsProgram names.new program.now × HoldsElements names.new store.now.elements × IfOk result (λ a. HoldsMade names.new a.changes) }
 {
-    // only the proof needs this: the store is looked at for what it keeps true
+    // only the proof needs this: it reads the store to get at the store's invariant
     let last = store.last();
     prove!(last < next_tag);
     let mut doing = ActState::new(alloc, program, watch, store, inst, next_tag)?;

@@ -1,4 +1,4 @@
-//! `ActState`, the whole state between two actions: working memory, bindings, cells, and whether `halt` was done.
+//! `ActState`, the whole state between two actions: working memory, bindings, cells, and whether a `halt` was done.
 ghost use Rattle.std.specs.Prelude.{◌≡◌, ◌+◌, ◌-◌, ◌<◌, IfOk, OnOk, [], ◌∷◌, map, true, false, unwrap_or, length, slice_set, List};
 ghost use Rattle.std.specs.List.{list_all};
 ghost use Rattle.std.specs.Option.{option_copied};
@@ -32,8 +32,8 @@ pub(crate) enum Cell<'s> {
     Nothing,
 }
 
-/// The state of a right side between two of its actions, with the program and the trace level that it stands in. A cell
-/// copies no element, and the changes only grow, so that the change that it names stays where it is.
+/// The state of a right side between two of its actions, with its program and trace level. A cell copies no element. A
+/// cell may refer to a change by its place: changes are only appended, so that the place stays valid.
 #[derive(Drop)]
 pub(crate) struct ActState<'s> {
     alloc: Global,
@@ -68,7 +68,7 @@ impl<'s> Model for ActState<'s> {
     ghost invariant = { λ d. list_all (is_there (length d.working.changes)) d.cells.items ≡ true };
 }
 
-/// The cell of a tag's element, which is looked up here and not again.
+/// The cell of the element with this tag. The element is looked up here and never again.
 fn cell_of(store: &Store, tag: u64) -> Cell<'_>
     ensures held { (changes : List Change) → held_by changes result ≡ unwrap_or (element_of store.now.elements tag) no_element }
     ensures there { is_there 0 result ≡ true }
@@ -99,7 +99,7 @@ fn conditions_of(program: &Program, rule: usize) -> &[Part]
     }
 }
 
-/// A number above that of each variable in a production.
+/// A number above that of every variable in a production.
 fn variables_of(program: &Program, rule: usize) -> usize {
     match program.rules.as_slice().get(rule) {
         Some(rule) => rule.variables,
@@ -107,7 +107,7 @@ fn variables_of(program: &Program, rule: usize) -> usize {
     }
 }
 
-/// A cell of the element that was added last. Looks at the changes since then.
+/// A cell that holds the element that was added last. Scans the changes since then.
 fn last_made<'s>(changes: &[Change]) -> Cell<'s>
     ensures held { held_by changes.now result ≡ made_last changes.now }
     ensures there { is_there (length changes.now) result ≡ true }
@@ -123,7 +123,7 @@ fn last_made<'s>(changes: &[Change]) -> Cell<'s>
 }
 
 impl<'s> ActState<'s> {
-    /// Nothing is done yet.
+    /// No action is done yet.
     pub(crate) fn new(
         alloc: Global,
         program: &'s Program,
@@ -153,7 +153,7 @@ impl<'s> ActState<'s> {
         })
     }
 
-    /// The element of a cell, also where it was removed. Nothing is looked up.
+    /// The element of a cell, even if it was removed. Needs no lookup.
     pub(crate) fn element(&self, cell: usize) -> Option<&Element>
         ensures { unwrap_or (option_copied result) no_element ≡ held_in self.now cell }
     {
@@ -228,7 +228,7 @@ impl<'s> ActState<'s> {
         Ok(())
     }
 
-    /// Removes the element of this tag, where it is present.
+    /// Removes the element with this tag, if it is present.
     fn remove_tag(&mut self, tag: u64) -> Result<(), OutOfMemory>
         ensures does { OnOk result ((names : Spellings) (coming : Coming) → doing_of self.new names coming ≡ removed (doing_of self.old names coming) tag) }
         ensures goes_on { OnOk result (GoesOnTo self.old.working self.new.working) }
@@ -238,7 +238,7 @@ impl<'s> ActState<'s> {
         Ok(())
     }
 
-    /// Removes the element of a cell, where it is present.
+    /// Removes the element of a cell, if it is present.
     pub(crate) fn remove(&mut self, cell: usize) -> Result<(), OutOfMemory>
         ensures does { OnOk result ((names : Spellings) (coming : Coming) → doing_of self.new names coming ≡ removed (doing_of self.old names coming) (held_in self.old cell).tag) }
         ensures goes_on { OnOk result (GoesOnTo self.old.working self.new.working) }
@@ -248,8 +248,8 @@ impl<'s> ActState<'s> {
         self.remove_tag(tag)
     }
 
-    /// Puts an element with these fields in the place of that of a cell, in working memory and in the cell. Nothing is
-    /// copied, and an element of the left side is looked up once, for whether it is present.
+    /// Replaces the element of a cell with one that has these fields, in working memory and in the cell. Nothing is
+    /// copied. An element of the left side is looked up once, to see whether it is present.
     pub(crate) fn modify(&mut self, cell: usize, fields: Vec<Value>) -> Result<(), OutOfMemory>
         ensures does { OnOk result ((names : Spellings) (coming : Coming) → doing_of self.new names coming ≡ modified (doing_of self.old names coming) cell fields.items) }
         ensures goes_on { OnOk result (GoesOnTo self.old.working self.new.working) }
@@ -263,7 +263,7 @@ impl<'s> ActState<'s> {
         Ok(())
     }
 
-    /// The cell holds what the change at this place has added.
+    /// Makes the cell hold the element that the change at this place added.
     fn hold(&mut self, cell: usize, place: usize)
         requires { place < length self.old.working.changes }
         ensures { self.new ≡ record self.old { cells = slice_set self.old.cells cell (made_at self.old.working.changes place) } }
@@ -273,7 +273,7 @@ impl<'s> ActState<'s> {
         }
     }
 
-    /// A new cell holds the element that was made last. Looks at the changes since then.
+    /// Adds a cell that holds the element that was made last. Scans the changes since then.
     pub(crate) fn bind_cell(&mut self) -> Result<(), OutOfMemory>
         ensures does { OnOk result ((names : Spellings) (coming : Coming) → doing_of self.new names coming ≡ cell_bound (doing_of self.old names coming)) }
         ensures setting { self.new.setting ≡ self.old.setting }
@@ -283,14 +283,14 @@ impl<'s> ActState<'s> {
         Ok(())
     }
 
-    /// `halt` is done.
+    /// Records that a `halt` was done.
     pub(crate) fn halt(&mut self)
         ensures { self.new ≡ record self.old { halted = true } }
     {
         self.halted = true;
     }
 
-    /// Binds a variable, also one that was bound before.
+    /// Binds a variable. It may have been bound before.
     pub(crate) fn bind(&mut self, variable: usize, value: Value) -> Result<(), OutOfMemory>
         ensures does { OnOk result ((names : Spellings) (coming : Coming) → doing_of self.new names coming ≡ bound (doing_of self.old names coming) variable value) }
         ensures setting { self.new.setting ≡ self.old.setting }

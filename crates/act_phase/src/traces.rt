@@ -1,4 +1,4 @@
-//! What is printed at each trace level, and the lines of what was removed and made.
+//! What is printed at each trace level, and the lines for removed and made elements.
 ghost use Rattle.std.specs.Prelude.{◌≡◌, ◌^◌, ◌<◌, IsTrue, OnErr, Some, false, nat_le, slice_get, drop, take};
 ghost use Rattle.ops_base.specs.WorkingMemory.{done};
 ghost use Rattle.ops_io.specs.Ports.{port, PutsBytes};
@@ -11,7 +11,7 @@ use ops_base::symbols::Names;
 use ops_io::{Out, Sink, WriteFailed};
 use ops_print::{put_made_line, put_removed_line};
 
-/// Puts the line of the change at this place.
+/// Puts the line for the change at this place.
 fn tell_change<K: Sink>(
     doing: &ActState<'_>,
     names: &Names,
@@ -52,8 +52,8 @@ pub fn traces_elements(watch: u8) -> bool
     watch >= 2
 }
 
-/// Puts the lines of all changes but the first `since`, where elements are traced. For the line of an element that the
-/// right side has made and removed again it goes back over the changes between.
+/// Puts the lines for all changes except the first `since`, if elements are traced. For the line of an element that the
+/// right side made and removed again, it searches backwards through the changes between.
 pub(crate) fn tell_changes<K: Sink>(
     doing: &ActState<'_>,
     names: &Names,

@@ -1,4 +1,4 @@
-//! What the terms of a right side give.
+//! The values of the terms of a right side.
 ghost use Rattle.std.specs.Prelude.{◌≡◌, ◌^◌, ◌<◌, [], true, IsTrue, drop, unwrap_or, false};
 ghost use Rattle.std.specs.Option.{option_copied};
 ghost use Rattle.ops_base.specs.Matching.{value_of};
@@ -26,7 +26,7 @@ use ops_base::values::{NOTHING, Value};
 use ops_io::{Input, Out, Sink, Source};
 use std::slice;
 
-/// The values of one term. They take no memory.
+/// The values of one term. No memory is allocated for them.
 #[derive(Drop)]
 pub(crate) enum Values<'d> {
     One(Value),
@@ -43,7 +43,7 @@ impl Values<'_> {
         }
     }
 
-    /// `nil` where there is none.
+    /// The first value, or `nil` if there is none.
     pub(crate) fn first(&self) -> Value
         ensures { result ≡ first_of (values_in self.now) }
     {
@@ -64,7 +64,7 @@ fn scalar_count(classes: &[Class], class: usize) -> usize
     }
 }
 
-/// The values of the vector attribute, after this many others.
+/// The values of the vector attribute, which come after `count` other fields.
 fn rest(element: Option<&Element>, count: usize) -> &[Value]
     ensures { result.now ≡ drop count (unwrap_or (option_copied element.entry) no_element).fields }
 {
@@ -92,7 +92,7 @@ fn class(element: Option<&Element>) -> usize
     }
 }
 
-/// The value of a variable, which is looked for among the bindings.
+/// The value of a variable, found by a search of the bindings.
 fn value_in(doing: &ActState<'_>, variable: usize) -> Value
     ensures { result ≡ unwrap_or (value_of doing.now.bindings variable) nil }
 {

@@ -1,4 +1,4 @@
-//! Where `accept` stands.
+//! Which actions contain `accept`.
 ghost use Rattle.std.specs.Prelude.{◌≡◌, false};
 ghost use Rattle.std.specs.List.{list_any};
 ghost use Rattle.ops_meaning.specs.Acting.{actions_of};
@@ -41,7 +41,7 @@ fn any_item_asks(items: &[Item]) -> bool
     items.iter().any(|item| item_asks(item))
 }
 
-/// Whether `accept` stands in an action.
+/// Whether an action contains `accept`.
 pub fn asks(action: &Action) -> bool
     ensures { result ≡ action_asks action.now }
 {
@@ -63,8 +63,8 @@ fn may_change(action: &Action) -> bool
     )
 }
 
-/// Whether in the right side of a production `accept` stands in an action after one that may change working memory.
-/// Looks at each of its terms at most once.
+/// Whether, in the right side of a production, an action that contains `accept` comes after one that may change working
+/// memory. Examines each term at most once.
 pub fn asks_after_change(program: &Program, rule: usize) -> bool
     ensures { result ≡ asks_after false (actions_of program.now.rules rule) }
 {

@@ -20,27 +20,28 @@ use Rattle.token_line.specs.inner.Pairs.{ArePairs}
 use Rattle.activation.specs.inner.Effects.{Effect}
 use Rattle.activation.specs.inner.Putting.{Put, changes}
 
--- ---- what is asked of a line
+-- ---- what a line must satisfy
 
--- how often right tokens stand that match this left token of the node, over these sums; all tags are below 2 ^ 64
+-- the number of right tokens, by effective count, that match this left token of the node, over these sums; all tags
+-- are below 2 ^ 64
 abbrev pub matching : Elements → Node → Bag → ℕ → List ℕ → ℕ
 matching elements x b n t = count_with (2 ^ 64) x.kind x.joins elements t (standing_at b n Right)
 
--- whether the task comes to a terminal
+-- the task is for a terminal
 abbrev pub is_last : List Node → Task → Bool
 is_last nodes x = option_map_or (λ n. is_terminal n.kind) (slice_get nodes x.node) false
 
--- the tasks of these entries that came to terminals
+-- the tasks of these entries that were for terminals
 abbrev pub lasts_of : List Node → List Entry → List Task
 lasts_of nodes es = filter (is_last nodes) (map (λ e. e.task) es)
 
--- the line tells of just the tasks that came to terminals
+-- the line reports exactly the tasks that were for terminals
 abbrev pub TellsOfLasts : List Node → Line → Type 0
 TellsOfLasts nodes line = line.told.items ≡ lasts_of nodes line.entries.items
 
--- Each token of the line that has a sum other than 0 fits, and the line keeps it under its code. With each left token
--- of a negated node or a group it keeps how often right tokens stand that match it. It tells of just the tasks that came
--- to terminals.
+-- Each token of the line whose sum is not 0 fits, and the line keeps it under its code. With each left token of a
+-- negated node or a group the line keeps the number of right tokens, by effective count, that match it. It reports
+-- exactly the tasks that were for terminals.
 pub record IsCounted (nodes : List Node) (s : Stored) (line : Line) : Type 0 where
   pub fit : (n : ℕ) (side : Side) (t : List ℕ) → sum_in line n side t ≢ pos 0 → Fits nodes s n side t
   pub counts : (n : ℕ) (x : Node) (t : List ℕ) → slice_get nodes n ≡ Some x → is_negated x.kind ≡ true → sum_in line n Left t ≢ pos 0
@@ -50,25 +51,25 @@ pub record IsCounted (nodes : List Node) (s : Stored) (line : Line) : Type 0 whe
 
 -- ---- what a node puts out for a task
 
--- this many, with the sign
+-- this number, with the sign
 abbrev pub signed : Bool → ℕ → ℤ
 signed true k = pos k
 signed false k = neg_ℤ (pos k)
 
--- how often a token is put out, all in all
+-- how many times a token is put out, in total
 abbrev pub number_put : List ℕ → List Put → ℕ
 number_put t [] = 0
 number_put t (p ∷ ps) = (if bytes_eq t p.token then p.times else 0) + number_put t ps
 
--- the token has the width of what the node puts out, and the store holds all its elements
+-- the token has the width of the node's output, and the store holds all its elements
 pub record IsOutOf (nodes : List Node) (s : Stored) (n : ℕ) (t : List ℕ) : Type 0 where
   pub width : length t ≡ width nodes n
   pub held : All (λ tag. IsSome (held_of s tag)) t
 
--- What the task does at its node: what is put out, with the sign, is the change of what the node puts out, where the
--- node can have children. At a negated node or a group a left token is kept with how often right tokens stand that match
--- it, and a right token is one blocker more, or one less, just where it stands once more or once less; each left token
--- with its code has room for that.
+-- What the task does at its node. What is put out, with the sign, is the change of the node's output, if the node can
+-- have children. At a negated node or a group, a left token is kept with the number of right tokens, by effective
+-- count, that match it; and a right token adds or removes one blocker exactly if its effective count changes. Each
+-- left token with its code has room for that.
 pub record IsEffect (nodes : List Node) (s : Stored) (line : Line) (x : Task) (e : Effect) : Type 0 where
   pub fit : All (λ p. IsOutOf nodes s x.node p.token) e.puts
   pub change : (node : Node) (elements : Elements) (t : List ℕ) → slice_get nodes x.node ≡ Some node → is_terminal node.kind ≡ false → Agrees s elements
@@ -80,15 +81,15 @@ pub record IsEffect (nodes : List Node) (s : Stored) (line : Line) (x : Task) (e
   pub room : e.blocks ≡ true → x.plus ≡ true → (t : List ℕ) → IsFiled line x.node (code_of (held_of s) nodes x.node x.side x.token) Left t
       → blockers_in line x.node t < 2 ^ 64 - 1
 
--- no token is kept twice on one side, and none with a sum of 0
+-- no token is kept twice on one side, and none is kept with a sum of 0
 pub record AreKept (m : CodeMemory) : Type 0 where
   pub left : ArePairs m.left
   pub right : ArePairs m.right
 
 -- ---- what a task does
 
--- The task became an entry of its line, after those that were there, and counts in the sum of its token. The children
--- of the entry follow the change of what its node puts out, each fits, and they came after the tasks that were there.
+-- The task became the last entry of its line, and counts in the sum of its token. The children of the entry follow
+-- the change of its node's output, each fits, and they were added after the tasks that were there.
 pub record Acts (nodes : List Node) (s : Stored) (x : Task) (old new : Line) (before now : List Task) : Type 0 where
   pub entry : Entry
   pub task : entry.task ≡ x

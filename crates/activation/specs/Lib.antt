@@ -1,3 +1,3 @@
--- What one task gives, and what it leaves of its line.
+-- What one task creates, and what it changes on its line.
 pub mod inner
 pub mod Acting

@@ -1,4 +1,4 @@
--- How the code finds what a node puts out: nothing here says what is right.
+-- How the code computes a node's output: nothing here defines what is right.
 pub mod Putting
 pub mod Negating
 pub mod Effects

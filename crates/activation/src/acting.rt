@@ -1,4 +1,4 @@
-//! One task, done on its line.
+//! Performs one task on its line.
 ghost use Rattle.std.specs.Prelude.{◌≡◌, ◌≢◌, ◌<◌, ◌-◌, ◌^◌, ◌&&◌, List, OnErr, OnOk, Some, if◌then◌else◌, pos, slice_get, true, ℕ, ◌≤◌, vec_capacity};
 ghost use Rattle.std.specs.Option.{option_copied};
 ghost use Rattle.work_store.specs.Stored.{held_of};
@@ -35,7 +35,7 @@ fn node_of<'a>(net: &'a Net, store: &Store, task: &Task) -> &'a Node
     }
 }
 
-/// Whether a line reports the tasks of this node: those of a terminal.
+/// Whether a line reports the tasks of this node: true exactly for a terminal.
 fn is_told(node: &Node) -> bool
     ensures { result ≡ is_terminal node.now.kind }
 {
@@ -45,7 +45,7 @@ fn is_told(node: &Node) -> bool
     }
 }
 
-/// Counts the task's right token with the left tokens of its node that it matches, if `blocks` says so.
+/// Counts the task's right token as a blocker of the left tokens of its node that it matches, if `blocks` is set.
 fn count_blockers(
     net: &Net,
     store: &Store,
@@ -77,7 +77,7 @@ fn count_blockers(
     }
 }
 
-/// What `activate` does, but that some children may be left where memory runs out.
+/// As `activate`, except that some children may be left in `out` if memory runs out.
 #[inline(always)]
 fn attempt(
     alloc: Global,
@@ -111,15 +111,19 @@ fn attempt(
     Ok(())
 }
 
-/// Does a task on this line, which its caller finds by `token_line::line_of`: its children go after `out`, it becomes
-/// an entry of the line, and its token counts there. The children are for the left sides of the node's children, and
-/// for the right sides of the groups that it gives to. The task's code is made once, and its memory and the token are
-/// looked for once. The task is copied only where its node is a terminal. A node looks at each token of the other side
-/// that it has on the line with the task's code. At a join or a negated node these have the task's values at the
-/// equality tests; at a group they are the tokens that cover the task's, or the one that it covers; and others only
-/// where their codes happen to be equal. A left token that a negated node or a group keeps already looks at none, and
-/// neither does a task that changes nothing, unless it is a left delete there that comes before its insert. Each child
-/// is made once. Where memory runs out, or a count does not fit, nothing has changed.
+/// Performs a task on this line, which the caller has found with `token_line::line_of`. The task's children are
+/// appended to `out`, the task becomes an entry of the line, and its token is counted there. The children are for the
+/// left sides of the node's children and for the right sides of the groups that the node feeds.
+///
+/// Cost: the task's code is computed once, and its memory and its token are looked up once. The task is copied only
+/// if its node is a terminal. A node examines every token of the other side that it has on the line under the task's
+/// code. At a join or a negated node, these tokens have the task's values at the equality tests. At a group, they are
+/// the tokens that cover the task's token, or the one that it covers. Other tokens are examined only if their codes
+/// happen to be equal. No token is examined for a left token that a negated node or a group already keeps. Nor is one
+/// for a task that changes nothing, except a left delete at such a node that arrives before its insert. Each child is
+/// built once.
+///
+/// If memory runs out, or a count does not fit, nothing has changed.
 pub fn activate(
     alloc: Global,
     net: &Net,
@@ -142,7 +146,7 @@ pub fn activate(
     activate_coded(alloc, net, store, line, task, code, out)
 }
 
-/// As `activate`, for one who knows the task's code, as `token_line::place_of` tells it with the line.
+/// As `activate`, for a caller that knows the task's code: `token_line::place_of` returns it together with the line.
 #[inline(always)]
 pub fn activate_coded(
     alloc: Global,

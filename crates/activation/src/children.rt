@@ -1,4 +1,4 @@
-//! The tasks for the children of a node, of what the node puts out.
+//! Builds the tasks for the children of a node from the node's output.
 ghost use Rattle.std.specs.Prelude.{◌≡◌, ◌++◌, IfOk, OnOk, map, replicate, ◌≤◌, vec_capacity};
 ghost use Rattle.token_line.specs.Bags.{standing};
 ghost use Rattle.activation.specs.inner.Children.{Grows, child, children_of, targets_of, to_each};
@@ -10,8 +10,8 @@ use ops_base::memory::OutOfMemory;
 use std::alloc::Global;
 use token_line::TokenCount;
 
-/// The nodes to which a node gives, those on their left side and the groups on their right side, and whether what it
-/// puts out arrives there (`plus`) or leaves.
+/// The nodes that a node feeds: those fed on their left side, and the groups fed on their right side. Its output
+/// arrives there if `plus` is set, and leaves otherwise.
 #[derive(Clone, Copy)]
 pub(crate) struct Below<'a> {
     pub(crate) children: &'a [usize],
@@ -19,7 +19,7 @@ pub(crate) struct Below<'a> {
     pub(crate) plus: bool,
 }
 
-/// The token, with the tag after it where there is one.
+/// The token, followed by the tag if there is one.
 fn with_tag(alloc: Global, token: &[u64], tag: Option<u64>) -> Result<Tags, OutOfMemory>
     ensures { IfOk result (λ t. t ≡ tagged token.now tag) }
 {
@@ -30,7 +30,7 @@ fn with_tag(alloc: Global, token: &[u64], tag: Option<u64>) -> Result<Tags, OutO
     Ok(made)
 }
 
-/// A token that a node puts out, with the tag after it where there is one, and how often.
+/// A token that a node puts out, followed by the tag if there is one, and how many times it is put out.
 #[derive(Clone, Copy)]
 struct Output<'a> {
     token: &'a [u64],
@@ -38,8 +38,8 @@ struct Output<'a> {
     times: u64,
 }
 
-/// Adds a task for one side of a node, as often as the token is put out. Where memory runs out, some may have been
-/// added.
+/// Adds a task for one side of a node, once for each time that the token is put out. If memory runs out, some may
+/// have been added.
 fn push_to(
     alloc: Global,
     node: usize,
@@ -64,7 +64,7 @@ fn push_to(
     Ok(())
 }
 
-/// Adds the tasks for one side of each of these nodes. Where memory runs out, some may have been added.
+/// Adds the tasks for one side of each of these nodes. If memory runs out, some may have been added.
 fn push_to_all(
     alloc: Global,
     nodes: &[usize],
@@ -83,8 +83,8 @@ fn push_to_all(
     Ok(())
 }
 
-/// Adds the tasks for each node below, of a token that is put out so often: for the left side of each child, and then
-/// for the right side of each group. Where memory runs out, some may have been added.
+/// Adds the tasks for each node below, for a token that is put out the given number of times: first for the left side
+/// of each child, then for the right side of each group. If memory runs out, some may have been added.
 pub(crate) fn push_to_each(
     alloc: Global,
     below: Below,
@@ -103,15 +103,15 @@ pub(crate) fn push_to_each(
     push_to_all(alloc, below.rights, Side::Right, plus, output, out)
 }
 
-/// How often a token of this sum stands.
+/// The effective count of a token with this sum.
 pub(crate) fn standing(sum: i64) -> u64
     ensures { result ≡ standing sum }
 {
     if sum > 0 { sum as u64 } else { 0 }
 }
 
-/// Adds the tasks for each node below, of a token that is put out as often as one stands of which this is kept, if
-/// `holds` says so. Where memory runs out, some may have been added.
+/// If `holds` is set, adds the tasks for each node below, for a token that is put out as many times as the effective
+/// count of the kept sum. If memory runs out, some may have been added.
 pub(crate) fn push_if(
     alloc: Global,
     holds: bool,

@@ -22,18 +22,18 @@ use std::alloc::Global;
 use token_line::{CodeMemory, TokenCount};
 use work_store::Store;
 
-/// What is still to be counted on the line once a task has given its children.
+/// What remains to be counted on the line after a task's children have been made.
 #[derive(Clone, Copy)]
 pub(crate) struct Done {
-    /// How often right tokens stand that match the task's token, if that is a left one of a negated node or a group;
-    /// else 0.
+    /// The number of right tokens, by effective count, that match the task's token if it is a left token of a negated
+    /// node or a group; otherwise 0.
     pub(crate) blockers: u64,
-    /// Whether the task's token is one blocker more, or one less, of the left tokens that it matches: it is a right one
-    /// of a negated node or a group, and stands once more or once less.
+    /// Whether the task's token adds or removes one blocker of each left token that it matches: it is a right token
+    /// of a negated node or a group, and its effective count changes.
     pub(crate) blocks: bool,
 }
 
-/// Both sides are looked at for what they say of their tokens alone.
+/// Reads both sides only to learn what their contracts promise about their tokens.
 pub(crate) fn tokens_are_kept(memory: Option<&CodeMemory>)
     ensures { ForSome (option_copied memory.entry) AreKept }
 {
@@ -43,14 +43,14 @@ pub(crate) fn tokens_are_kept(memory: Option<&CodeMemory>)
     }
 }
 
-/// Says that every tag which the store holds is of 64 bits, as its last one is.
+/// Establishes that every tag in the store fits in 64 bits, because the last tag does.
 pub(crate) fn tags_are_small(store: &Store)
     ensures { (tag : ℕ) → IsSome (held_of store.now tag) → tag < 2 ^ 64 }
 {
     let _last = store.last();
 }
 
-/// Whether the task changes how often its token stands, of which so much is kept.
+/// Whether the task changes the effective count of its token, given what is kept of the token.
 fn moves(kept: Option<TokenCount>, task: &Task) -> bool
     ensures { result ≡ changes (option_map_or (λ c. c.sum) kept (pos 0)) task.now.plus }
 {
@@ -60,7 +60,7 @@ fn moves(kept: Option<TokenCount>, task: &Task) -> bool
     }
 }
 
-/// The nodes to which this one gives: the tokens arrive there (`plus`) or leave.
+/// The nodes that this one feeds. The tokens arrive there if `plus` is set, and leave otherwise.
 fn below(node: &Node, plus: bool) -> Below<'_>
     ensures children { result.children.now ≡ node.now.children }
     ensures rights { result.rights.now ≡ node.now.rights }
@@ -73,7 +73,7 @@ fn below(node: &Node, plus: bool) -> Below<'_>
     }
 }
 
-/// What a task does at a join, which gives tasks only where the task changes how often its token stands.
+/// What a task does at a join, which makes tasks only if the task changes the effective count of its token.
 fn at_join(
     alloc: Global,
     store: &Store,
@@ -98,8 +98,8 @@ fn at_join(
     })
 }
 
-/// What a left task does at a negated node or a group, where this many right tokens match it: its token is put out if
-/// none does.
+/// What a left task does at a negated node or a group, given the number of right tokens that match it: its token is
+/// put out if that number is 0.
 fn at_left(
     alloc: Global,
     node: &Node,
@@ -122,8 +122,8 @@ fn at_left(
     })
 }
 
-/// What a right task does at a negated node or a group, if it changes how often its token stands: an insert takes back
-/// what was put out, and a delete puts it out again.
+/// What a right task does at a negated node or a group, if it changes the effective count of its token: an insert
+/// retracts what was put out, and a delete puts it out again.
 fn at_right(
     alloc: Global,
     store: &Store,
@@ -148,8 +148,9 @@ fn at_right(
     })
 }
 
-/// What the task does at its node, which has this memory on the line and this of the task's token: its children go
-/// after `out`. At a terminal there are none. Where memory runs out, some children may have been added.
+/// What the task does at its node, given the node's memory on the line and what is kept of the task's token. Its
+/// children are appended to `out`; at a terminal there are none. If memory runs out, some children may have been
+/// added.
 pub(crate) fn do_at(
     alloc: Global,
     store: &Store,

@@ -1,5 +1,5 @@
-//! One task of the match, done on its line: the tasks that it gives, and the change of its sum and of what blocks left
-//! tokens.
+//! One task of the match, performed on its line: the tasks that it creates, the change of its token's sum, and the
+//! change of the blocker counts of left tokens.
 #![tactic(auto)]
 
 mod acting;

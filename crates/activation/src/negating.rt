@@ -1,5 +1,6 @@
-//! What a negated node or a group puts out for a task, and how often right tokens stand that match a left one, over the
-//! tokens of its line. A right token matches the left ones that it goes with: at a group the one that it covers.
+//! What a negated node or a group puts out for a task, and the number of right tokens that match a left token, over
+//! the tokens of the task's line. A right token matches the left tokens that it goes with: at a group, the one that
+//! it covers.
 ghost use Rattle.std.specs.Prelude.{◌≡◌, ◌+◌, ◌==◌, ◌&&◌, ◌++◌, IfOk, OnOk, if◌then◌else◌, true, ◌≤◌, vec_capacity};
 ghost use Rattle.std.specs.Option.{option_copied, option_map_or};
 ghost use Rattle.work_store.specs.Stored.{held_of};
@@ -18,7 +19,7 @@ use std::alloc::Global;
 use token_line::{CodeMemory, TokenCount, Tokens, goes_with};
 use work_store::Store;
 
-/// A sum that would not fit is answered as out of memory.
+/// Adds two counts. A sum that does not fit is reported as out of memory.
 fn added(count: u64, more: u64) -> Result<u64, OutOfMemory>
     ensures { IfOk result (λ n. n ≡ count + more) }
 {
@@ -28,14 +29,15 @@ fn added(count: u64, more: u64) -> Result<u64, OutOfMemory>
     }
 }
 
-/// How often a right token counts that matches, or does not.
+/// What a right token contributes to the number of matches: its effective count if it matches, otherwise 0.
 fn times(holds: bool, cell: TokenCount) -> u64
     ensures { result ≡ (if holds then standing cell.sum else 0) }
 {
     if holds { standing(cell.sum) } else { 0 }
 }
 
-/// How often right tokens stand that match the left token: it looks at each of these, which have its code.
+/// The number of right tokens, by effective count, that match the left token. It examines each right token with that
+/// code.
 fn number_matching(
     store: &Store,
     node: &Node,
@@ -53,8 +55,8 @@ fn number_matching(
     Ok(count)
 }
 
-/// How often right tokens stand that match a left token of a negated node or a group. It looks at them only where the
-/// left token is not kept yet.
+/// The number of right tokens, by effective count, that match a left token of a negated node or a group. It examines
+/// them only if the left token is not kept yet.
 pub(crate) fn blockers_for(
     store: &Store,
     node: &Node,
@@ -73,14 +75,15 @@ pub(crate) fn blockers_for(
     }
 }
 
-/// With how many blockers a left token is free before one right token more that matches it, or after one less.
+/// The blocker count at which one matching right token flips a left token: 0 before one more blocks it, and 1 before
+/// one less unblocks it.
 fn before_flip(plus: bool) -> u64
     ensures { result ≡ before_flip plus }
 {
     if plus { 0 } else { 1 }
 }
 
-/// Whether a right token blocks the left one first, or frees it.
+/// Whether a right token is the first to block the left one, or its removal unblocks it.
 fn flips(
     store: &Store,
     node: &Node,
@@ -94,16 +97,16 @@ fn flips(
     cell.blockers == before_flip(plus) && goes_with(store, node, token, right)
 }
 
-/// Whether one blocker more, or one less, can be counted.
+/// Whether adding or removing one blocker fits in the count.
 fn has_room(plus: bool, cell: TokenCount) -> bool
     ensures { result ≡ has_room plus cell }
 {
     !plus || cell.blockers < u64::MAX
 }
 
-/// The tasks by which a negated node or a group takes back its left tokens for one right token more, or puts them out
-/// for one less: it looks at each left token with the code, of which a group has one, or a few where codes happen to be
-/// equal. If one has no room for another blocker, that is answered as out of memory.
+/// The tasks by which a negated node or a group retracts its left tokens for one more right token, or puts them out
+/// for one less. It examines each left token with the code: a group has one, or a few if codes happen to be equal. If
+/// one of them has no room for another blocker, out of memory is reported.
 fn give_flipped(
     alloc: Global,
     store: &Store,
@@ -131,7 +134,7 @@ fn give_flipped(
     Ok(())
 }
 
-/// The same for a right task that changes how often its token stands.
+/// The same for a right task that changes the effective count of its token.
 pub(crate) fn give_by_flip(
     alloc: Global,
     store: &Store,

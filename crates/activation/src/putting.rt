@@ -13,15 +13,15 @@ use std::alloc::Global;
 use token_line::{CodeMemory, Tokens, joins, joins_element, tag_at};
 use work_store::Store;
 
-/// Whether one insert or delete more changes how often a token of this sum stands. A delete that comes before its
-/// insert does not, and nor does that insert.
+/// Whether one more insert or delete changes the effective count of a token with this sum. A delete that comes before
+/// its insert does not, and neither does that insert.
 pub(crate) fn changes(sum: i64, plus: bool) -> bool
     ensures { result ≡ changes sum plus }
 {
     if plus { sum >= 0 } else { sum > 0 }
 }
 
-/// The tasks that a join gives for one left token more or less: it looks at each right token.
+/// The tasks that a join creates for one more or one less left token: it examines each right token.
 fn give_for_left(
     alloc: Global,
     store: &Store,
@@ -44,7 +44,8 @@ fn give_for_left(
     Ok(())
 }
 
-/// The tasks that a join gives for one right token more or less: it looks up its element, and looks at each left token.
+/// The tasks that a join creates for one more or one less right token: it looks up its element and examines each left
+/// token.
 fn give_for_right(
     alloc: Global,
     store: &Store,
@@ -67,8 +68,8 @@ fn give_for_right(
     Ok(())
 }
 
-/// The tasks that a join gives for a task that changes how often its token stands. Where memory runs out, some may have
-/// been added.
+/// The tasks that a join creates for a task that changes the effective count of its token. If memory runs out, some
+/// may have been added.
 pub(crate) fn give_by_join(
     alloc: Global,
     store: &Store,

@@ -14,13 +14,13 @@ use ops_base::memory::OutOfMemory;
 use std::alloc::Global;
 use test_table::passes;
 
-/// The class and the alpha tests of a condition, in text order: the tests that neither bind nor compare with a variable
-/// that is bound outside the condition. It looks back over the variables that the condition binds for each test of a
-/// variable.
+/// The class and the alpha tests of a condition, in text order. Alpha tests are the tests that neither bind nor
+/// compare with a variable that is bound outside the condition. For each test of a variable it looks back over the
+/// variables that the condition binds.
 pub fn alpha_part(alloc: Global, condition: &Condition) -> Result<Alpha, OutOfMemory>
     ensures alone { IfOk result (λ a. a ≡ alpha_of condition.now) }
 
-    // They are those of its normal form, whatever stands before it.
+    // They are those of its normal form, whatever comes before it.
     ensures anywhere { IfOk result (λ a. (place : ℕ) (binders : List Binder)
         → AreBelow place binders → a.tests ≡ alpha_tests place (normal_tests place condition.now.tests binders)) }
 {
@@ -33,7 +33,7 @@ pub fn alpha_part(alloc: Global, condition: &Condition) -> Result<Alpha, OutOfMe
     })
 }
 
-/// Decides one test. A variable is a field of the element.
+/// Evaluates one test. A variable is a field of the element.
 fn test_passes(test: &Test, e: &Element) -> bool
     ensures { result ≡ alpha_test_holds e.now test.now }
 {
@@ -51,7 +51,7 @@ fn tests_pass(tests: &[Test], e: &Element) -> bool
     tests.iter().all(|test| test_passes(test, e))
 }
 
-/// Whether the element is of the alpha's class and passes each of its tests. It decides one test after another up to
+/// Whether the element is of the alpha's class and passes each of its tests. It evaluates the tests in order up to
 /// the first that does not hold, and takes no memory.
 pub fn alpha_passes(alpha: &Alpha, e: &Element) -> bool
     ensures { result ≡ passes_alpha alpha.now e.now }

@@ -1,4 +1,4 @@
-//! The tests of one condition: its normal form, and its alpha, which looks at one element alone.
+//! The tests of one condition: its normal form, and its alpha, which looks only at one element.
 #![tactic(auto)]
 
 pub mod alpha;

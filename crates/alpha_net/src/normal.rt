@@ -8,7 +8,7 @@ use ops_base::list::Listed;
 use ops_base::memory::OutOfMemory;
 use std::alloc::Global;
 
-/// What binds a variable, the last of several.
+/// What binds a variable: the last of several binders.
 #[tactic(auto, using(crate::proofs::Origins::origin_of_last))]
 fn origin_of(binders: &[Binder], variable: usize) -> Option<Origin>
     ensures { result ≡ origin_of binders.now variable }
@@ -23,7 +23,7 @@ fn origin_of(binders: &[Binder], variable: usize) -> Option<Origin>
     None
 }
 
-/// An operand with its variable replaced, none where nothing binds it.
+/// An operand with its variable replaced, none if nothing binds the variable.
 fn normal_operand(
     alloc: Global,
     binders: &[Binder],
@@ -58,7 +58,8 @@ fn bind(binders: &mut Vec<Binder>, operand: &Operand, origin: Origin) -> Result<
     }
 }
 
-/// The tests that do not bind. What the others bind comes after what was bound before, also where memory runs out.
+/// The tests that do not bind. The binders of the other tests are appended to those that were there, even if memory
+/// runs out.
 #[tactic(auto, using(crate::proofs::Binding::still_first))]
 fn normal_tests(
     alloc: Global,
@@ -86,8 +87,9 @@ fn normal_tests(
     Ok(found)
 }
 
-/// The normal form of a condition with this many positive ones before it. What it binds is added to the binders. It
-/// looks back over the binders for each test of a variable. Where memory runs out the binders are as before.
+/// The normal form of a condition with this many positive conditions before it. What it binds is added to the
+/// binders. For each test of a variable it looks back over the binders. If memory runs out, the binders are as
+/// before.
 pub fn normal_form(
     alloc: Global,
     place: usize,

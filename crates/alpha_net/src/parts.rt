@@ -1,4 +1,4 @@
-//! The two parts of a condition's tests: those that look at its element alone, and those that look at others too.
+//! The two groups of a condition's tests: those that look only at its element, and those that also look at others.
 ghost use Rattle.std.specs.Prelude.{◌≡◌, IfOk};
 ghost use Rattle.net_base.specs.Normal.{own_operand, joined_origin, alpha_tests, join_tests};
 
@@ -9,7 +9,7 @@ use ops_base::list::Listed;
 use ops_base::memory::OutOfMemory;
 use std::alloc::Global;
 
-/// The operand of a test that looks at the element at this place alone.
+/// The operand of a test that looks only at the element at this place.
 fn own_operand(
     alloc: Global,
     place: usize,
@@ -30,7 +30,7 @@ fn own_operand(
     }
 }
 
-/// What another element's test compares with.
+/// What a test of another element compares with.
 fn joined_origin(place: usize, operand: &NormalOperand) -> Option<Origin>
     ensures { result ≡ joined_origin place operand.now }
 {
@@ -47,7 +47,7 @@ fn joined_origin(place: usize, operand: &NormalOperand) -> Option<Origin>
     }
 }
 
-/// The tests that look at the element at this place alone, in their order.
+/// The tests that look only at the element at this place, in order.
 pub fn alpha_tests(
     alloc: Global,
     place: usize,
@@ -69,7 +69,7 @@ pub fn alpha_tests(
     Ok(Listed::from_vec(found))
 }
 
-/// The other tests, in their order.
+/// The other tests, in order.
 pub fn join_tests(
     alloc: Global,
     place: usize,

@@ -1,4 +1,4 @@
-//! The alpha of a condition, and elements that pass it or not.
+//! The alpha of a condition, and elements that pass it and elements that do not.
 
 use crate::alpha::{alpha_part, alpha_passes};
 use ops_base::conditions::{Condition, Operand, Test};

@@ -1,4 +1,4 @@
--- What the links of all rules are, and how alphas and nodes follow them.
+-- The links of all rules, and the alphas and nodes that follow from them.
 use Rattle.std.specs.Prelude.{◌≡◌, ◌+◌, ℕ, List, [], ◌++◌, map, length, slice_get, Option, Some, unwrap_or, if◌then◌else◌, ◌⊎◌}
 use Rattle.ops_base.specs.declared.conditions.Test.{Test}
 use Rattle.ops_base.specs.declared.rules.Rule.{Rule}
@@ -50,7 +50,7 @@ pub record HasAlpha (alphas : List Alpha) (class : ℕ) (tests : List Test) (n :
 abbrev pub IsNewAlpha : List Alpha → ℕ → List Test → Type 0
 IsNewAlpha alphas class tests = (n : ℕ) → HasAlpha alphas class tests n → ⊥
 
--- no two alphas have one class and the same tests
+-- no two alphas have the same class and the same tests
 abbrev pub AreDistinct : List Alpha → Type 0
 AreDistinct alphas = (n m : ℕ) (a b : Alpha) → slice_get alphas n ≡ Some a → slice_get alphas m ≡ Some b → IsAlpha a.class a.tests b → n ≡ m
 
@@ -61,7 +61,7 @@ pub record AreAlphas (s : Alphas) : Type 0 where
   pub distinct : AreDistinct s.list.items
   pub codes : s.chains ≡ map code_of_alpha s.list.items
 
--- alpha n has this class and these tests, and all alphas before stay
+-- alpha n has this class and these tests, and all alphas that were there stay
 pub record AddsAlpha (old new : Alphas) (class : ℕ) (tests : List Test) (n : ℕ) : Type 0 where
   pub more : List Alpha
   pub grown : new.list.items ≡ old.list.items ++ more
@@ -113,7 +113,7 @@ pub record IsTerminalNode (k : ℕ) (e : End) (x : Node) : Type 0 where
   pub joins : x.joins ≡ []
   pub depth : x.depth ≡ e.depth
 
--- a node of a link, and all alphas before stay
+-- a node of a link, and all alphas that were there stay
 pub record AddsNode (old new : Alphas) (l : Link) (x : Node) : Type 0 where
   pub more : List Alpha
   pub grown : new.list.items ≡ old.list.items ++ more
@@ -131,13 +131,13 @@ AreNodes links alphas nodes = (n : ℕ) (x : Node) → slice_get nodes n ≡ Som
 abbrev pub AreUsed : List Link → List Alpha → Type 0
 AreUsed links alphas = (m : ℕ) (a : Alpha) → slice_get alphas m ≡ Some a → (n : ℕ) × (l : Link) × (slice_get links n ≡ Some l) × IsAlphaOf l a
 
--- the node of a link, or after those of all links the terminal of a rule
+-- the node of a link or, after those of all links, the terminal of a rule
 abbrev pub IsNodeAt : List Link → List End → List Alpha → ℕ → Node → Type 0
 IsNodeAt links ends alphas n x =
     ((l : Link) × (slice_get links n ≡ Some l) × IsNodeOf alphas l x)
     ⊎ ((k : ℕ) × (e : End) × (n ≡ length links + k) × (slice_get ends k ≡ Some e) × IsTerminalNode k e x)
 
--- after the nodes that there were, a terminal for each of the first ends
+-- after the nodes that were there, a terminal for each of the first ends
 pub record AddsTerminals (old new : List Node) (ends : List End) (bound : ℕ) : Type 0 where
   pub count : length new ≡ length old + bound
   pub each : (n : ℕ) (x : Node) → slice_get new n ≡ Some x

@@ -1,5 +1,5 @@
--- Codes by which conditions, groups and alphas are looked up. Nothing is asked of them but that the same ones have the
--- same code.
+-- Codes by which conditions, groups and alphas are looked up. The only requirement is that equal ones have the same
+-- code.
 use Rattle.std.specs.Prelude.{ℕ, ◌+◌, ◌*◌, ◌%◌, ◌^◌, List, [], ◌∷◌, Option, Some, None, if◌then◌else◌}
 use Rattle.std.specs.Int.{cast_unsigned, w128}
 use Rattle.ops_base.specs.declared.values.Value.{Value}

@@ -25,7 +25,7 @@ abbrev pub path_at : (ℕ → List NormalPart) → Option Link → List NormalPa
 path_at paths None = []
 path_at paths (Some l) = path_above paths l.parent ++ l.part ∷ []
 
--- of each link whose number is below the bound
+-- for each link whose number is below the bound
 abbrev pub path_below : ℕ → List Link → ℕ → List NormalPart
 path_below zero links n = []
 path_below (suc k) links n = path_at (path_below k links) (slice_get links n)
@@ -55,7 +55,7 @@ abbrev pub is_positive : Part → Bool
 is_positive (part.One c) = not c.negated
 is_positive (part.Group cs) = false
 
--- the binders in sight after it
+-- the binders that are visible after it
 abbrev pub binders_past : ℕ → Part → List Binder → List Binder
 binders_past place (part.One c) binders = if c.negated then binders else binders_after place c.tests binders
 binders_past place (part.Group cs) binders = binders
@@ -80,12 +80,12 @@ IsOf parent p l = (l.parent ≡ parent) × (l.part ≡ p)
 abbrev pub ArePositive : List NormalCondition → Type 0
 ArePositive cs = AllByRecursion (λ (c : NormalCondition). c.negated ≡ false) cs
 
--- a condition stands below its parent, a group below the path of its members
+-- a condition is below its parent, a group is below the path of its members
 abbrev pub StandsBelow : List Link → Option ℕ → Option ℕ → NormalPart → Type 0
 StandsBelow links parent above (One c) = above ≡ parent
 StandsBelow links parent above (Group cs) = ArePositive cs × (path_to links above ≡ path_to links parent ++ as_parts cs)
 
--- link n is as it is to be
+-- link n is well-formed
 pub record IsFit (links : List Link) (n : ℕ) (l : Link) : Type 0 where
   pub parent : IsWithin l.parent n
   pub above : IsWithin l.above n
@@ -93,7 +93,7 @@ pub record IsFit (links : List Link) (n : ℕ) (l : Link) : Type 0 where
   pub depth : l.depth ≡ depth_to links l.above + 1
   pub below : StandsBelow links l.parent l.above l.part
 
--- no two links have one parent and part
+-- no two links have the same parent and part
 pub record AreLinks (links : List Link) : Type 0 where
   pub each : (n : ℕ) (l : Link) → slice_get links n ≡ Some l → IsFit links n l
   pub distinct : (n m : ℕ) (l k : Link) → slice_get links n ≡ Some l → slice_get links m ≡ Some k → IsOf l.parent l.part k → n ≡ m
@@ -112,7 +112,7 @@ pub record Stands (links : List Link) (parent : Option ℕ) (p : NormalPart) (n 
 abbrev pub IsNew : List Link → Option ℕ → NormalPart → Type 0
 IsNew links parent p = (n : ℕ) → Stands links parent p n → ⊥
 
--- n is a link of this parent and part, and all links before stay
+-- n is a link of this parent and part, and all links that were there stay
 pub record Adds (old new : Links) (parent : Option ℕ) (p : NormalPart) (n : ℕ) : Type 0 where
   pub more : List Link
   pub grown : new.list.items ≡ old.list.items ++ more
@@ -122,14 +122,14 @@ pub record Adds (old new : Links) (parent : Option ℕ) (p : NormalPart) (n : �
 
 -- ---- links of a rule
 
--- all links before stay, and each link is old or of such a path
+-- all links that were there stay, and each link is old or of such a path
 pub record Grows (old new : Links) (Such : List NormalPart → NormalPart → Type 0) : Type 0 where
   pub more : List Link
   pub grown : new.list.items ≡ old.list.items ++ more
   pub only : (m : ℕ) (l : Link) → slice_get new.list.items m ≡ Some l → (slice_get old.list.items m ≡ Some l) ⊎ Such (path_to new.list.items l.parent) l.part
   pub linked : IsLinked new
 
--- a member of a group after q, and what stands before it
+-- a member of a group after q, and the parts before it
 pub record IsMemberAfter (q : List NormalPart) (cs : List NormalCondition) (before : List NormalPart) (p : NormalPart) : Type 0 where
   pub front : List NormalCondition
   pub member : NormalCondition
@@ -138,7 +138,7 @@ pub record IsMemberAfter (q : List NormalPart) (cs : List NormalCondition) (befo
   pub before_is : before ≡ q ++ as_parts front
   pub part_is : p ≡ One member
 
--- the links of these members after a parent, where o is the last
+-- the links of these members after a parent; o is the last
 pub record AddsMembers (old new : Links) (parent : Option ℕ) (cs : List NormalCondition) (o : Option ℕ) : Type 0 where
   pub grows : Grows old new (IsMemberAfter (path_to old.list.items parent) cs)
   pub within : IsWithin o (length new.list.items)
@@ -149,7 +149,7 @@ abbrev pub IsPartAfter : List NormalPart → NormalPart → List NormalPart → 
 IsPartAfter q (One c) before p = (before ≡ q) × (p ≡ One c)
 IsPartAfter q (Group cs) before p = ((before ≡ q) × (p ≡ Group cs)) ⊎ IsMemberAfter q cs before p
 
--- the links of this part after a parent, where n is its own
+-- the links of this part after a parent; n is its own
 pub record AddsPart (old new : Links) (parent : Option ℕ) (p : NormalPart) (n : ℕ) : Type 0 where
   pub grows : Grows old new (IsPartAfter (path_to old.list.items parent) p)
   pub low : n < length new.list.items
@@ -161,7 +161,7 @@ pub record IsEndOf (links : List Link) (ps : List Part) (e : End) : Type 0 where
   pub down : path_to links e.parent ≡ normal_parts 0 ps []
   pub depth : e.depth ≡ depth_to links e.parent + 1
 
--- the links of the rule's paths, and all links before
+-- the links of the rule's paths, and all links that were there
 pub record AddsRule (old new : Links) (ps : List Part) (e : End) : Type 0 where
   pub grows : Grows old new (IsIn (normal_parts 0 ps []))
   pub ends : IsEndOf new.list.items ps e

@@ -16,12 +16,12 @@ AreGiversBefore nodes = (n g : ℕ) (x : Node) → slice_get nodes n ≡ Some x 
 abbrev pub AreRightless : List Node → Type 0
 AreRightless nodes = (n : ℕ) (x : Node) → slice_get nodes n ≡ Some x → x.rights ≡ []
 
--- each node has its groups below the bound, and is else as before
+-- each node has its groups with numbers below the bound, and is otherwise as before
 pub record AreGiven (old new : List Node) (bound : ℕ) : Type 0 where
   pub count : length new ≡ length old
   pub each : (k : ℕ) (x : Node) → slice_get old k ≡ Some x → slice_get new k ≡ Some (record x { rights = rights_below old bound k })
 
--- n is one group more of the node p
+-- n is one more group of the node p
 pub record AddsRight (old new : List Node) (p n : ℕ) : Type 0 where
   pub count : length new ≡ length old
   pub here : (x : Node) → slice_get old p ≡ Some x → slice_get new p ≡ Some (record x { rights = x.rights ++ n ∷ [] })

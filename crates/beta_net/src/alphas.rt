@@ -1,4 +1,4 @@
-//! The alphas so far, each found again by its class and tests.
+//! The alphas so far, which can be looked up by class and tests.
 ghost use Rattle.std.specs.Prelude.{◌≡◌, ◌↔◌, IfOk, IfSome, IfNone, IsTrue, map};
 ghost use Rattle.beta_net.specs.Built.{IsAlpha, HasAlpha, IsNewAlpha, AreAlphas, AddsAlpha, code_of_alpha};
 
@@ -23,7 +23,7 @@ fn is_alpha_of(alpha: &Alpha, class: usize, tests: &[Test]) -> bool
     alpha.class == class && same_items(alpha.tests.as_slice(), tests)
 }
 
-/// The alpha of this class and these tests. It looks at those that have the same code.
+/// The alpha of this class and these tests. It compares those that have the same code.
 fn find(alphas: &[Alpha], chains: &Chains, class: usize, tests: &[Test]) -> Option<usize>
     requires { chains.now ≡ map code_of_alpha alphas.now }
     ensures found { IfSome result (λ n. HasAlpha alphas.now class tests.now n) }
@@ -41,7 +41,7 @@ fn find(alphas: &[Alpha], chains: &Chains, class: usize, tests: &[Test]) -> Opti
     None
 }
 
-/// Adds an alpha that is not there.
+/// Adds an alpha that is not there yet.
 fn add(alphas: &mut Alphas, alpha: Alpha) -> Result<usize, OutOfMemory>
     requires alphas { AreAlphas alphas.old }
     requires fresh { IsNewAlpha alphas.old.list.items alpha.class alpha.tests }

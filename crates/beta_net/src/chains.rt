@@ -1,4 +1,4 @@
-//! Numbers from 0 on, each with a code, and those of one code chained from the newest back to the first.
+//! Numbers from 0 on, each with a code. Numbers with the same code are chained from the newest back to the first.
 ghost use Rattle.std.specs.Prelude.{◌≡◌, ◌<◌, ◌++◌, ◌∷◌, [], ℕ, OnOk, Some, length, slice_get};
 ghost use Rattle.beta_net.specs.Chained.{IsLast};
 
@@ -13,7 +13,7 @@ struct Entry {
     earlier: Option<usize>,
 }
 
-/// Contracts see the codes of the numbers, in their order.
+/// Contracts see the codes of the numbers, in order.
 #[derive(Drop)]
 pub(crate) struct Chains {
     entries: Vec<Entry>,
@@ -33,7 +33,7 @@ impl Model for Chains {
 }
 
 impl Chains {
-    /// Takes no memory.
+    /// No numbers. Takes no memory.
     pub(crate) fn new(alloc: Global) -> Chains
         ensures { result ≡ [] }
     {
@@ -43,7 +43,7 @@ impl Chains {
         }
     }
 
-    /// The last number of this code, found by its key.
+    /// The last number with this code, found by one lookup.
     pub(crate) fn newest(&self, code: u64) -> Option<usize>
         ensures { IsLast self.now code (length self.now) result }
     {

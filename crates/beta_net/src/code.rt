@@ -1,4 +1,4 @@
-//! Codes by which conditions, groups and alphas are looked up. The same ones have the same code, and different ones
+//! Codes by which conditions, groups and alphas are looked up. Equal ones have the same code, and different ones
 //! rarely do.
 ghost use Rattle.std.specs.Prelude.{◌≡◌};
 ghost use Rattle.net_base.specs.Counting.{pred_number};

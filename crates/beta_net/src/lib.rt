@@ -1,4 +1,4 @@
-//! The compiler of productions to a network in which they share what they have in common.
+//! The compiler that turns productions into a network in which they share what they have in common.
 #![tactic(auto)]
 
 ghost use Rattle.std.specs.Prelude.{IfOk};
@@ -39,15 +39,15 @@ fn draft_of(alloc: Global, program: &Program) -> Result<Draft, OutOfMemory>
     Ok(draft)
 }
 
-/// The network of the program's productions. Two conditions share a node exactly where the same parts stand before them
-/// and they have one sign, one class and the same tests that do not bind, in one order. A member of a group has the sign
-/// of a positive condition, and before it stand the parts before the group and then the members before it. Two groups
-/// share a node exactly where the same parts stand before them and their members share their nodes. Two nodes
-/// share an alpha where they have one class and the same tests of one element alone.
+/// The network of the program's productions. Two conditions share a node exactly if the parts before them are the
+/// same and they have the same sign, the same class and the same tests that do not bind, in the same order. A member
+/// of a group counts as a positive condition, and the parts before it are those before the group followed by the
+/// members before it. Two groups share a node exactly if the parts before them are the same and their members share
+/// their nodes. Two nodes share an alpha if they have the same class and the same tests of one element.
 ///
-/// Each condition is looked up by its code among those of the same code, and so is each group, by the codes of its
-/// members, and each alpha. A test of a variable looks back over the variables that the production binds. The members
-/// of a group are read twice.
+/// Each condition is looked up by its code among those with the same code, and so are each group, by the codes of its
+/// members, and each alpha. For each test of a variable it looks back over the variables that the production binds.
+/// The members of a group are read twice.
 pub fn compile(alloc: Global, program: &Program) -> Result<Net, OutOfMemory>
     ensures network { IfOk result (λ net. NetOf net program.now.rules) }
     ensures shape { IfOk result (λ net. IsShape program.now.rules (counts_of net.alphas net.nodes)) }

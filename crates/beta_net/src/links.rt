@@ -1,4 +1,4 @@
-//! The distinct paths of the parts of productions, each found again by its key.
+//! The distinct paths of the parts of productions, which can be looked up by key.
 ghost use Rattle.std.specs.Prelude.{◌≡◌, ◌+◌, ◌↔◌, IfOk, IfSome, IfNone, IsTrue, length, map};
 ghost use Rattle.beta_net.specs.Linked.{depth_to, link_code, IsWithin, IsFit, IsOf, IsLinked, Stands, IsNew, Adds};
 
@@ -8,13 +8,13 @@ use crate::same::Same;
 use net_base::normal::NormalPart;
 use ops_base::memory::OutOfMemory;
 
-/// A path: what stands before its last part, and that part.
+/// A path: what comes before its last part, and that part.
 #[derive(Drop)]
 pub(crate) struct Link {
     pub(crate) parent: Option<usize>,
-    /// The link by which its depth goes: for a group that of its last member, for a condition its parent.
+    /// The link that determines its depth: for a group that of its last member, for a condition its parent.
     pub(crate) above: Option<usize>,
-    /// How many positive conditions stand before the last part, members of its group included.
+    /// How many positive conditions come before the last part, members of its group included.
     pub(crate) place: usize,
     /// How many nodes a token passes down to it.
     pub(crate) depth: usize,
@@ -44,7 +44,7 @@ fn is_link_of(link: &Link, parent: Option<usize>, part: &NormalPart) -> bool
     is_same_parent(link.parent, parent) && link.part.same(part)
 }
 
-/// The link of this parent and part. It looks at those that have the same code.
+/// The link of this parent and part. It compares those that have the same code.
 fn find(links: &[Link], chains: &Chains, parent: Option<usize>, part: &NormalPart) -> Option<usize>
     requires { chains.now ≡ map link_code links.now }
     ensures found { IfSome result (λ n. Stands links.now parent part.now n) }
@@ -62,7 +62,7 @@ fn find(links: &[Link], chains: &Chains, parent: Option<usize>, part: &NormalPar
     None
 }
 
-/// Adds a link that is not there.
+/// Adds a link that is not there yet.
 fn add(links: &mut Links, link: Link) -> Result<usize, OutOfMemory>
     requires linked { IsLinked links.old }
     requires fit { IsFit links.old.list.items (length links.old.list.items) link }
@@ -92,7 +92,7 @@ pub(crate) fn number_of(links: &mut Links, link: Link) -> Result<usize, OutOfMem
     }
 }
 
-/// The depth of what stands below this link.
+/// The depth of what is directly below this link.
 pub(crate) fn depth_below(links: &Links, above: Option<usize>) -> usize
     requires linked { IsLinked links.now }
     requires within { IsWithin above (length links.now.list.items) }

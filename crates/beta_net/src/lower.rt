@@ -60,8 +60,8 @@ fn condition_node(
     })
 }
 
-/// The node of a link of a group. Its giver is the node of its last member, which stands above it, and there is one,
-/// since a group has members. A group looks at no element, so its class and alpha, which are 0, are not used.
+/// The node of a link of a group. Its giver is the node of its last member, which is above it and always exists,
+/// since a group has members. A group tests no element, so its class and alpha, which are 0, are not used.
 fn group_node(alloc: Global, link: &Link, members: &[NormalCondition]) -> Node
     ensures node { IsGroupNode link.now.place link.now.above members.now result }
     ensures parent { result.parent ≡ link.now.parent }

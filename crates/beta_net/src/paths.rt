@@ -1,4 +1,4 @@
-//! The paths of productions, part by part, and where each production ends.
+//! The paths of productions, part by part, and the end of each production.
 ghost use Rattle.std.specs.Prelude.{◌≡◌, ◌+◌, ◌<◌, ◌^◌, IfOk, OnOk, length};
 ghost use Rattle.ops_base.specs.declared.conditions.Part.TheVariants as part;
 ghost use Rattle.net_base.specs.Normal.{binders_after, normal_member, normal_members};
@@ -17,7 +17,7 @@ use ops_base::memory::OutOfMemory;
 use ops_base::rules::Rule;
 use std::alloc::Global;
 
-/// Where a production's parts end, and the depth of what stands below them.
+/// The link at which a production's parts end, and the depth of what is below it.
 #[derive(Drop)]
 pub(crate) struct End {
     pub(crate) parent: Option<usize>,
@@ -75,7 +75,7 @@ fn normal_member(
     })
 }
 
-/// The normal forms of a group's members. What they bind comes after what was bound before.
+/// The normal forms of a group's members. What they bind is appended to what was bound before.
 fn normal_members(
     alloc: Global,
     place: usize,
@@ -96,8 +96,8 @@ fn normal_members(
     Ok(members)
 }
 
-/// Adds those paths of a group's members that are not there, each below that of the member before it, and returns the
-/// last member's.
+/// Adds the paths of a group's members that are not there yet, each below that of the member before it, and returns
+/// the last member's.
 fn add_members(
     alloc: Global,
     links: &mut Links,
@@ -124,8 +124,8 @@ fn add_members(
     Ok(at)
 }
 
-/// Adds those paths of a group and its members that are not there, and returns the group's. What the members bind is
-/// out of sight after it. It reads each member twice: for its own path, and for that of the group.
+/// Adds the paths of a group and its members that are not there yet, and returns the group's. What the members bind
+/// is not visible after the group. It reads each member twice: for its own path, and for that of the group.
 fn add_group(
     alloc: Global,
     links: &mut Links,
@@ -159,7 +159,8 @@ fn add_group(
     Ok(n)
 }
 
-/// Adds the path of a condition if it is not there, and returns it. What a negated one binds is out of sight after it.
+/// Adds the path of a condition if it is not there, and returns it. What a negated condition binds is not visible
+/// after it.
 fn add_one(
     alloc: Global,
     links: &mut Links,
@@ -184,7 +185,7 @@ fn add_one(
     Ok(n)
 }
 
-/// Adds those paths of a part and its members that are not there, and returns the part's.
+/// Adds the paths of a part and its members that are not there yet, and returns the part's.
 fn add_part(
     alloc: Global,
     links: &mut Links,
@@ -217,7 +218,7 @@ fn is_positive(part: &Part) -> bool
     }
 }
 
-/// Adds those paths of a production that are not there, and returns where it ends.
+/// Adds the paths of a production that are not there yet, and returns where it ends.
 fn add_rule(alloc: Global, links: &mut Links, parts: &[Part]) -> Result<End, OutOfMemory>
     requires { IsLinked links.old }
     ensures { IfOk result (λ end. AddsRule links.old links.new parts.now end) }

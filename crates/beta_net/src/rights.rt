@@ -1,4 +1,4 @@
-//! The groups that each node gives their right tokens.
+//! The groups that each node feeds on their right side.
 ghost use Rattle.std.specs.Prelude.{◌≡◌, ◌<◌, OnOk, length, slice_get, Some};
 ghost use Rattle.net_base.specs.declared.nodes.Node.{Node};
 ghost use Rattle.beta_net.specs.Rights.{giver_of, AreGiversBefore, AreRightless, AreGiven, AddsRight};

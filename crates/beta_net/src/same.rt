@@ -10,7 +10,7 @@ pub(crate) trait Same {
         ensures { IsTrue result ↔ (self.now ≡ other.now) };
 }
 
-/// Looks at one item after another up to the first two that differ.
+/// Compares two lists item by item, up to the first two items that differ.
 pub(crate) fn same_items<T: Same>(a: &[T], b: &[T]) -> bool
     ensures { IsTrue result ↔ (a.now ≡ b.now) }
 {

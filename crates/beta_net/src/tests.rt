@@ -1,4 +1,4 @@
-//! What productions share, and the networks of groups: their nodes, their tests, and which nodes take elements.
+//! What productions share, and the networks of groups: their nodes, their tests, and the nodes that take elements.
 ghost use Rattle.std.specs.Prelude.{◌≡◌, ◌∷◌, [], IfOk, false};
 ghost use Rattle.ops_base.specs.declared.conditions.Operand.TheVariants as operand;
 ghost use Rattle.ops_base.specs.declared.conditions.Part.TheVariants as part;
@@ -53,7 +53,7 @@ fn condition<const N: usize>(
     })
 }
 
-/// Of any element of the class.
+/// A condition that any element of the class meets.
 fn any(alloc: Global, class: usize) -> Condition
     ensures { result ≡ record { class = class; negated = false; tests = [] } }
 {
@@ -64,7 +64,7 @@ fn any(alloc: Global, class: usize) -> Condition
     }
 }
 
-/// Of any two elements of these classes.
+/// A group that any two elements of these classes meet.
 fn pair(alloc: Global, first: usize, second: usize) -> Result<Part, OutOfMemory>
     ensures { IfOk result (λ p. p ≡ part.Group
         (record { class = first; negated = false; tests = [] } ∷ record { class = second; negated = false; tests = [] } ∷ [])) }
@@ -73,7 +73,7 @@ fn pair(alloc: Global, first: usize, second: usize) -> Result<Part, OutOfMemory>
     Ok(Part::Group(Listed::from_array(alloc, members)?))
 }
 
-/// A production of this left side without actions.
+/// A production with this left side and without actions.
 fn rule<const N: usize>(
     alloc: Global,
     name: u64,
@@ -255,7 +255,7 @@ fn counts(alpha: usize, join: usize, negated: usize, terminal: usize) -> Counts 
     }
 }
 
-/// Of a pair after one positive condition.
+/// The kind of a group of two members after one positive condition.
 fn pair_of(giver: usize) -> Kind {
     Kind::Group {
         giver,

@@ -1,4 +1,4 @@
--- What an index of the conflict set holds.
+-- The contents of an index of the conflict set.
 use Rattle.std.specs.Prelude.{◌≡◌, ℕ, List, [], map, filter, Bool, not, All}
 use Rattle.ops_base.specs.declared.commands.Strategy.{Strategy}
 use Rattle.ops_base.specs.declared.commands.Strategy.TheVariants.{Lex}
@@ -26,11 +26,11 @@ nothing_indexed = record { strategy = Lex; members = [] }
 abbrev pub insts_of : List Member → List Inst
 insts_of members = map (λ m. m.inst) members
 
--- those that have not fired
+-- the members that have not fired
 abbrev pub waiting : List Member → List Member
 waiting members = filter (λ m. not m.fired) members
 
--- those that are marked as fired
+-- the instantiations that are marked as fired
 abbrev pub fired_of : List Member → List Inst
 fired_of members = insts_of (filter (λ m. m.fired) members)
 
@@ -47,10 +47,10 @@ key_with i specificity = record {
 abbrev pub key_of : Member → Key
 key_of m = key_with m.inst m.specificity
 
--- the first dominates the second, by the specificities that they are kept with
+-- the first dominates the second, according to the specificities that are kept with them
 abbrev pub outranks : Strategy → Member → Member → Bool
 outranks strategy m n = is_greater (compare_keys strategy (key_of m) (key_of n))
 
--- each is kept with the specificity of its production among these
+-- each member is kept with the specificity that its production has among these rules
 abbrev pub KeepsSpecificities : List Rule → List Member → Type 0
 KeepsSpecificities rules members = All (λ m. m.specificity ≡ specificity_of rules m.inst.rule) members

@@ -1,5 +1,5 @@
--- How an index keeps its members: in the order of dominance, and those that fired when they were dominant by their
--- keys.
+-- How an index keeps its members: in the order of dominance, except for those that fired while they were dominant,
+-- which are kept by their keys.
 use Rattle.std.specs.Prelude.{◌≡◌, ◌≢◌, ℕ, ◌≤◌, List, [], ◌∷◌, ◌++◌, length, map, filter, not, true, false, if◌then◌else◌, Contains, ◌⊎◌, ◌↔◌}
 use Rattle.std.specs.List.{IsDistinct}
 use Rattle.std.specs.List.Sorted.{IsStrictlySortedBy}
@@ -17,15 +17,15 @@ use Rattle.conflict_index.specs.Rank.{Rank}
 use Rattle.conflict_index.specs.Indexed.{Member, key_with}
 use Rattle.conflict_index.specs.Ranking.{compare_ranks}
 
--- a member that stands in the order of dominance
+-- a member in the order of dominance
 abbrev pub held_member : Rank × Held → Member
 held_member e = record { inst = e.1.inst; specificity = e.0.key.specificity; fired = e.1.fired }
 
--- a member that fired when it was the dominant one
+-- a member that fired while it was the dominant one
 abbrev pub fired_member : Key × Inst → Member
 fired_member e = record { inst = e.1; specificity = e.0.specificity; fired = true }
 
--- a member among others in the order of rule and tags, in the place of one with the same instantiation
+-- a member inserted in the order of rule and tags, in place of one with the same instantiation
 abbrev pub put_in : Member → List Member → List Member
 put_in m [] = m ∷ []
 put_in m (n ∷ members) =
@@ -49,11 +49,11 @@ rank_with strategy i specificity = record { strategy = strategy; key = key_with 
 abbrev pub rank_in : Strategy → List Rule → Inst → Rank
 rank_in strategy rules i = rank_with strategy i (specificity_of rules i.rule)
 
--- an instantiation that comes, with its rank
+-- an instantiation that comes, together with its rank
 abbrev pub arrival : Strategy → List Rule → Inst → Rank × Held
 arrival strategy rules i = (rank_in strategy rules i, record { inst = i; fired = false })
 
--- what stands at a rank, marked where it is of the instantiation
+-- the entry at a rank, marked if it is that of this instantiation
 abbrev pub marked_held : Inst → Held → Held
 marked_held i h = if is_same_inst h.inst i then record h { fired = true } else h
 
@@ -61,20 +61,20 @@ marked_held i h = if is_same_inst h.inst i then record h { fired = true } else h
 abbrev pub ranked_anew : Strategy → List (Rank × Held) → List (Rank × Held)
 ranked_anew strategy waiting = map (λ (e : Rank × Held). (record { strategy = strategy; key = e.0.key }, e.1)) waiting
 
--- what is there and what is added is told apart by the ranks
+-- no two different entries, existing or added, have the same rank
 abbrev pub AreToldApart : List (Rank × Held) → List (Rank × Held) → Type 0
 AreToldApart old added = (d e : Rank × Held) → (Contains old d ⊎ Contains added d) → (Contains old e ⊎ Contains added e) → d.0 ≡ e.0 → d ≡ e
 
--- each has the rank of its instantiation
+-- each entry has the rank of its instantiation
 abbrev pub AreRanked : Strategy → List (Rank × Held) → Type 0
 AreRanked strategy waiting = (e : Rank × Held) → Contains waiting e → e.0 ≡ rank_with strategy e.1.inst e.0.key.specificity
 
--- each has the key of its instantiation
+-- each entry has the key of its instantiation
 abbrev pub AreKeyed : List (Key × Inst) → Type 0
 AreKeyed fired = (e : Key × Inst) → Contains fired e → e.0 ≡ key_with e.1 e.0.specificity
 
--- What is true of the two maps of an index. An instantiation is that of one member, and there is room for a mark on
--- each.
+-- The invariant of the two maps of an index. No two members have the same instantiation, and there is room for a mark
+-- on each member that has none in the second map.
 pub record IsKept (strategy : Strategy) (waiting : List (Rank × Held)) (fired : List (Key × Inst)) (spare : ℕ) : Type 0 where
   pub ordered : IsStrictlySortedBy compare_ranks (keys_of waiting)
   pub unique : IsDistinct same_keys (keys_of fired)
@@ -84,18 +84,18 @@ pub record IsKept (strategy : Strategy) (waiting : List (Rank × Held)) (fired :
   pub apart : (e : Rank × Held) (d : Key × Inst) → Contains waiting e → Contains fired d → e.1.inst ≢ d.1
   pub room : length waiting ≤ spare
 
--- the second has what the first has, and these too
+-- `new` has exactly the entries of `old` and these
 abbrev pub Gains : {X : Type 0} → List X → List X → List X → Type 0
 Gains {X} added old new = (x : X) → Contains new x ↔ (Contains old x ⊎ Contains added x)
 
--- the second has what the first has but at these keys
+-- `new` has exactly the entries of `old`, without those at these keys
 abbrev pub Loses : {K X : Type 0} → List K → List (K × X) → List (K × X) → Type 0
 Loses {K} {X} keys old new = (e : K × X) → Contains new e ↔ (Contains old e × ¬ Contains keys e.0)
 
--- the second has what the first has and no more
+-- `new` has exactly the entries of `old`
 abbrev pub HasSame : {X : Type 0} → List X → List X → Type 0
 HasSame {X} old new = (x : X) → Contains new x ↔ Contains old x
 
--- those of these that have not fired
+-- the instantiations of those that have not fired
 abbrev pub unfired_insts : List Held → List Inst
 unfired_insts held = map (λ (h : Held). h.inst) (filter (λ h. not h.fired) held)

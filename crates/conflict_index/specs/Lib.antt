@@ -1,4 +1,4 @@
--- What the contracts of the index of the conflict set cite.
+-- What the contracts of the index of the conflict set refer to.
 pub mod Indexed
 pub mod Applying
 pub mod Selecting

@@ -1,4 +1,4 @@
--- How ranks stand in the order of dominance.
+-- How ranks compare in the order of dominance.
 use Rattle.std.specs.Prelude.{◌≡◌}
 use Rattle.std.proofs.Common.{refl, ap, sym, subst}
 use Rattle.std.specs.Cmp.{IsTotalOrder, then_total, on_total, nat_cmp_total}
@@ -11,18 +11,18 @@ use Rattle.resolution.specs.Keys.{Key, compare_keys}
 use Rattle.resolution.proofs.KeyLaws.{compare_keys_total}
 use Rattle.conflict_index.specs.Rank.{Rank}
 
--- the keys decide under one strategy, and all that is ranked under LEX is below what is ranked under MEA
+-- under one strategy the keys decide, and every rank under LEX is below every rank under MEA
 abbrev pub under : Strategy → Strategy → Ordering → Ordering
 under Lex Lex keys = keys
 under Lex Mea keys = Less
 under Mea Lex keys = Greater
 under Mea Mea keys = keys
 
--- ranks under one strategy compare as their keys do by it
+-- ranks under one strategy compare as their keys do under it
 abbrev pub compare_by_strategy : Rank → Rank → Ordering
 compare_by_strategy a b = under a.strategy b.strategy (compare_keys a.strategy a.key b.key)
 
--- where that does not tell them apart, the first tag does, at which LEX does not look
+-- ranks that this does not distinguish are compared by the first tag, which LEX ignores
 abbrev pub compare_ranks : Rank → Rank → Ordering
 compare_ranks a b = ordering_then (compare_by_strategy a b) (nat_cmp a.key.first b.key.first)
 

@@ -23,14 +23,14 @@ use std::alloc::Global;
 use std::collections::{BTreeMap, HashMap};
 use std::marker::Model;
 
-/// The conflict set. A member keeps its key, which is made once, for as long as it stays.
+/// The conflict set. The key of a member is made once, and kept for as long as the member stays.
 #[derive(Drop)]
 pub struct Index {
     alloc: Global,
     strategy: Strategy,
     waiting: Waiting,
     fired: Fired,
-    /// Ranks of what has gone, which are kept for their memory alone: the next that go take it over.
+    /// Ranks of members that are gone, kept only for their allocations, which are reused for the next members that go.
     leaving: Vec<Rank>,
 }
 
@@ -47,7 +47,7 @@ impl Model for Index {
 }
 
 impl Index {
-    /// No members, under LEX. Takes no memory.
+    /// No members, under LEX. Allocates nothing.
     pub fn new(alloc: Global) -> Index
         ensures { result ≡ nothing_indexed }
     {
@@ -67,16 +67,16 @@ impl Index {
         self.strategy
     }
 
-    /// Takes those that are gone out, with their marks, and adds those that come. Where memory runs out nothing has
-    /// changed.
+    /// Removes the instantiations that are gone, with their marks, and adds those that come. If memory runs out,
+    /// nothing has changed.
     ///
-    /// It costs what goes and what comes, and not what stays: for each a key is made, which copies the tags twice and
-    /// sorts one of the copies. Of what comes the key takes memory once, and the tags are copied once more. Of what goes
-    /// the key takes memory only where more go at once, or with more tags, than before. What goes is looked for by a
-    /// hash, and where it has not fired, as the place of what comes is: by a number of comparisons that grows with the
-    /// logarithm of the number of members. A comparison ends with one number where the tags that the strategy compares
-    /// first differ. Only where room for more marks is made, or where memory runs out while members are added, it goes
-    /// over those that are there.
+    /// Its cost depends on what goes and what comes, not on what stays. For each of them a key is made, which copies
+    /// the tags twice and sorts one of the copies. For each that comes, the key allocates once, and the tags are copied
+    /// once more. For those that go, the keys allocate only if more go at once, or with more tags, than before. An
+    /// instantiation that goes is looked up by a hash. If it has not fired, it is then looked up by comparisons, as is
+    /// the place of each that comes; the number of comparisons is logarithmic in the number of members. A comparison
+    /// needs only one number if the tags that the strategy compares first differ. It scans the existing members only to
+    /// make room for more marks, or if memory runs out while members are added.
     pub fn apply(
         &mut self,
         program: &Program,
@@ -103,9 +103,10 @@ impl Index {
         Ok(())
     }
 
-    /// Marks a member as fired. Takes no memory. Where it is the one that `select` answers, and no other was marked out
-    /// of turn, it costs a number of comparisons that does not grow with the members. Else it is looked for among those
-    /// that have not fired, which compares productions and tags with those of each, the dominant one last.
+    /// Marks a member as fired. Allocates nothing. If it is the one that `select` returns, and no member was marked
+    /// while it was not the dominant one, the number of comparisons does not grow with the number of members. Otherwise
+    /// it is searched for among those that have not fired, by comparing production and tags with each, the dominant one
+    /// last.
     pub fn mark(&mut self, inst: &Inst)
         requires { Contains (insts_of self.old.members) inst.now }
         ensures { self.new ≡ record self.old { members = marked inst.now self.old.members } }
@@ -119,9 +120,9 @@ impl Index {
         }
     }
 
-    /// Lets another strategy decide what `select` and `nth` answer from now on. Members and marks stay as they are.
-    /// Those that have not fired are copied with their keys into a new order, so it costs their number times its
-    /// logarithm. Where memory runs out nothing has changed.
+    /// Makes another strategy decide what `select` and `nth` return from now on. Members and marks stay as they are.
+    /// Those that have not fired are copied with their keys into a new order: for n of them, this costs n log n. If
+    /// memory runs out, nothing has changed.
     pub fn set_strategy(&mut self, strategy: Strategy) -> Result<(), OutOfMemory>
         ensures ok { OnOk result (self.new ≡ record self.old { strategy = strategy }) }
         ensures err { OnErr result (self.new ≡ self.old) }
@@ -131,8 +132,8 @@ impl Index {
         Ok(())
     }
 
-    /// Copies of those that are marked, in the order of production and tags. It goes over all members, and sorts those
-    /// that are marked.
+    /// Copies of the marked instantiations, in the order of production and tags. Scans all members, and sorts the
+    /// marked ones.
     pub fn marks(&self, alloc: Global) -> Result<Vec<Inst>, OutOfMemory>
         ensures marks { IfOk result (λ v. v.items ≡ fired_of self.now.members) }
         ensures in_order { IfOk result (λ v. IsInOrder v.items) }
@@ -140,9 +141,9 @@ impl Index {
         Ok(in_order(marked(alloc, &self.waiting, &self.fired)?))
     }
 
-    /// The index of these instantiations, of which those are marked that are among the marks; a mark that is none of
-    /// them is left out. Both stand in the order of production and tags. It costs what `apply` costs for what comes, and
-    /// one look at each mark.
+    /// The index of these instantiations, in which those that are among the marks are marked. A mark that is not among
+    /// the instantiations is ignored. Both lists are in the order of production and tags. The cost is that of `apply`
+    /// for instantiations that come, plus one look at each mark.
     pub fn with_marks(
         alloc: Global,
         strategy: Strategy,
@@ -169,8 +170,8 @@ impl Index {
         })
     }
 
-    /// The dominant one of those that have not fired. Takes no memory, and a time that grows with the logarithm of
-    /// their number, beside a step for each one above it that was marked out of turn.
+    /// The dominant instantiation among those that have not fired. Allocates nothing. The time is logarithmic in their
+    /// number, plus one step for each instantiation above it that was marked while another dominated it.
     pub fn select(&self) -> Option<&Inst>
         ensures first { MatchOption result (waiting self.now.members ≡ [])
             (λ i. IsFirst self.now.strategy self.now.members i.now) }
@@ -180,8 +181,8 @@ impl Index {
         self.by_dominance().next()
     }
 
-    /// Those that have not fired, the dominant one first: at each place the one that `nth` answers. Takes no memory.
-    /// All of them together take a time in proportion to their number.
+    /// The instantiations that have not fired, the dominant one first: `nth` returns the one at each place. Allocates
+    /// nothing. Iterating over all of them takes time in proportion to their number.
     pub fn by_dominance(&self) -> ByDominance<'_>
         ensures places { (place : ℕ) → MatchOption (slice_get result place) (length (waiting self.now.members) ≤ place)
             (λ i. IsAt self.now.strategy self.now.members place i) }
@@ -192,8 +193,8 @@ impl Index {
         }
     }
 
-    /// The one that has not fired at that place, from 0, in the order of dominance. Takes no memory, and walks there
-    /// from the dominant one: to see all of them take `by_dominance`.
+    /// The instantiation at that place, from 0, in the order of dominance of those that have not fired. Allocates
+    /// nothing. It steps there from the dominant one, so use `by_dominance` to see all of them.
     pub fn nth(&self, i: usize) -> Option<&Inst>
         ensures { MatchOption result (length (waiting self.now.members) ≤ i)
             (λ j. IsAt self.now.strategy self.now.members i j.now) }

@@ -1,5 +1,4 @@
-//! The conflict set as an index: those of its members that have not fired in the order of dominance, and those that
-//! have.
+//! The conflict set as an index: the members that have not fired, in the order of dominance, and those that have.
 #![tactic(auto)]
 
 mod index;

@@ -1,4 +1,4 @@
-//! Marks that are kept for an index made anew: those of one, in order, and the two maps of another that has them.
+//! Marks that are carried over to a new index: the marks of the old one, in order, and the two maps of the new one.
 ghost use Rattle.std.specs.Prelude.{◌≡◌, ◌≢◌, ◌+◌, ◌<◌, ◌≤◌, ◌∷◌, [], List, IsTrue, drop, length, IfOk, OnOk, Contains, IsPermutation};
 ghost use Rattle.std.specs.HashMap.{spare};
 ghost use Rattle.std.specs.List.Sorted.{IsSorted};
@@ -19,7 +19,7 @@ use std::alloc::Global;
 use std::cmp::Ordering;
 use std::collections::{BTreeMap, HashMap};
 
-/// Copies of those that are marked, in the order of the maps.
+/// Copies of the marked instantiations, in the order of the maps.
 pub(crate) fn marked(
     alloc: Global,
     waiting: &Waiting,
@@ -39,7 +39,7 @@ pub(crate) fn marked(
     Ok(marks)
 }
 
-/// In the order of production and tags.
+/// Sorts them in the order of production and tags.
 pub(crate) fn in_order(mut marks: Vec<Inst>) -> Vec<Inst>
     ensures order { IsSorted by_rule_and_tags result.items }
     ensures same { IsPermutation marks.items result.items }
@@ -48,7 +48,7 @@ pub(crate) fn in_order(mut marks: Vec<Inst>) -> Vec<Inst>
     marks
 }
 
-/// Whether an instantiation is among the marks from a place on, and the place from which to look for those after it.
+/// Whether an instantiation is among the marks from this place on, and the place from which to search for later ones.
 fn look(marks: &[Inst], from: usize, inst: &Inst) -> (usize, bool)
     requires { IsInOrder marks.now }
     ensures found { result.1 ≡ is_among (drop from marks.now) inst.now }
@@ -65,7 +65,8 @@ fn look(marks: &[Inst], from: usize, inst: &Inst) -> (usize, bool)
     (at, false)
 }
 
-/// Puts an instantiation to those that have fired, where there is room for it, or to those that have not.
+/// Adds an instantiation to the map of those that have fired, which has room for it, if it is marked, and otherwise to
+/// the map of those that have not.
 fn add_one(
     waiting: &mut Waiting,
     fired: &mut Fired,
@@ -92,7 +93,8 @@ fn add_one(
     Ok(())
 }
 
-/// The maps with copies of these. Each is marked where it is among the marks. It goes once over both lists.
+/// The maps with copies of these instantiations. Each is marked if it is among the marks. Makes one pass over both
+/// lists.
 pub(crate) fn with_marks(
     alloc: Global,
     strategy: Strategy,

@@ -1,4 +1,4 @@
-//! Going over the members that have not fired in the order of dominance.
+//! Iteration over the members that have not fired, in the order of dominance.
 ghost use Rattle.std.specs.Iterator.{YieldsFirstRef, item_count};
 
 use crate::rank::{Held, Rank};
@@ -6,7 +6,7 @@ use ops_base::rules::Inst;
 use std::collections::btree_map;
 use std::marker::Model;
 
-/// The instantiations of those that have not fired, the dominant one first, seen as the list of those that are left.
+/// The instantiations that have not fired, the dominant one first. Its view is the list of those that are left.
 #[derive(Drop)]
 pub struct ByDominance<'a> {
     pub(crate) held: btree_map::Values<'a, Rank, Held>,

@@ -1,4 +1,4 @@
-//! What stands in the order of dominance, and where.
+//! The entries of the order of dominance, and what determines their places.
 ghost use Rattle.std.specs.Prelude.{◌≡◌, ◌<◌, length, OnOk, Some, refl};
 ghost use Rattle.std.specs.Cmp.{partial_equiv_from_equiv, eq_by_cmp_equiv, partial_order_from_agreeing_total};
 ghost use Rattle.std.specs.Ordering.{eq_by_cmp};
@@ -13,11 +13,11 @@ use resolution::{Key, compare};
 use std::cmp::Ordering;
 use std::marker::Model;
 
-/// A key with the strategy by which it is compared, seen as these two. All ranks of one index have the strategy in
+/// A key with the strategy by which it is compared. Its view is these two. All ranks of one index have the strategy in
 /// force. Ranks that compare as equal are equal.
 #[derive(Drop)]
 pub(crate) struct Rank {
-    /// The tag that the strategy compares first. Where two differ, they decide, and no list is looked at.
+    /// The tag that the strategy compares first. If two differ, they decide, and no list is examined.
     top: u64,
     strategy: Strategy,
     pub(crate) key: Key,
@@ -35,7 +35,7 @@ impl Model for Rank {
     ghost invariant = { λ r. r.top ≡ top_of r.strategy r.key };
 }
 
-/// What stands at a rank. It has fired only if it was marked while another dominated it.
+/// The entry at a rank. It is marked as fired only if that happened while another dominated it.
 #[derive(Drop)]
 pub(crate) struct Held {
     pub(crate) inst: Inst,
@@ -97,7 +97,7 @@ fn compare_by_strategy(a: &Rank, b: &Rank) -> Ordering
 }
 
 impl Rank {
-    /// Takes no memory.
+    /// Allocates nothing.
     pub(crate) fn new(strategy: Strategy, key: Key) -> Rank
         ensures { result ≡ record { strategy = strategy; key = key } }
     {
@@ -108,7 +108,7 @@ impl Rank {
         }
     }
 
-    /// Becomes the rank of another instantiation. It takes memory only where that has more tags than any before.
+    /// Becomes the rank of another instantiation. Allocates only if that one has more tags than any before.
     pub(crate) fn become_of(
         &mut self,
         strategy: Strategy,

@@ -22,7 +22,7 @@ use resolution::{Key, key};
 use std::alloc::Global;
 use std::collections::{BTreeMap, HashMap};
 
-/// The members that have not fired while they were dominant, the dominant one last.
+/// The members that did not fire while they were dominant, the dominant one last.
 pub(crate) type Waiting = BTreeMap<Rank, Held>;
 
 /// Those that fired when they were dominant.
@@ -53,7 +53,7 @@ pub(crate) fn rank_of(
     Ok(Rank::new(strategy, key))
 }
 
-/// Makes the rank at a place that of an instantiation, or adds it at the end.
+/// Sets the rank at this place to that of an instantiation, or adds it at the end.
 fn set_rank(
     ranks: &mut Vec<Rank>,
     at: usize,
@@ -77,8 +77,8 @@ fn set_rank(
     }
 }
 
-/// Makes the first of these ranks those of the instantiations. Of each it copies the tags twice, and sorts one of the
-/// copies. It takes memory only where there are more of them, or more tags, than at any time before.
+/// Sets the first of these ranks to those of the instantiations. Copies the tags of each twice, and sorts one of the
+/// copies. Allocates only if there are more instantiations, or more tags, than at any time before.
 pub(crate) fn rank_each(
     ranks: &mut Vec<Rank>,
     alloc: Global,
@@ -99,8 +99,8 @@ pub(crate) fn rank_each(
     Ok(())
 }
 
-/// Adds a copy of each with its rank, as far as memory goes. Of each it copies the tags three times, sorts one of the
-/// copies, and takes memory twice.
+/// Adds a copy of each with its rank, until memory runs out. Copies the tags of each three times, sorts one of the
+/// copies, and allocates twice.
 fn add_all(
     alloc: Global,
     strategy: Strategy,
@@ -127,7 +127,7 @@ fn add_all(
     Ok(())
 }
 
-/// Goes over all of them.
+/// Removes these instantiations. Scans the whole map.
 fn take_back(waiting: &mut Waiting, insts: &[Inst])
     ensures entries { waiting.new.entries ≡ filter (λ e. not (is_among insts.now e.1.inst)) waiting.old.entries }
     ensures ordered { IsStrictlySortedBy compare_ranks (keys_of waiting.new.entries) }
@@ -135,8 +135,7 @@ fn take_back(waiting: &mut Waiting, insts: &[Inst])
     waiting.retain(|_, held| !is_among(insts, &held.inst));
 }
 
-/// Adds a copy of each with its rank, or none where memory runs out. In that case alone it goes over those that were
-/// there.
+/// Adds a copy of each with its rank, or none if memory runs out. Only then does it scan the existing entries.
 pub(crate) fn add(
     alloc: Global,
     strategy: Strategy,
@@ -163,8 +162,8 @@ pub(crate) fn add(
     }
 }
 
-/// Removes those of these ranks from where they stand, each in one of the two maps: it looks among those that wait only
-/// where a rank has not fired. Takes no memory.
+/// Removes the entries with these ranks, each from the map that it is in: a rank is searched for among those that wait
+/// only if it has not fired. Allocates nothing.
 pub(crate) fn remove_all(waiting: &mut Waiting, fired: &mut Fired, ranks: &[Rank])
     requires ordered { IsStrictlySortedBy compare_ranks (keys_of waiting.old.entries) }
     requires unique { IsDistinct same_keys (keys_of fired.old.entries) }
@@ -183,7 +182,7 @@ pub(crate) fn remove_all(waiting: &mut Waiting, fired: &mut Fired, ranks: &[Rank
     }
 }
 
-/// Whether the one that stands last is of an instantiation.
+/// Whether the last entry is that of this instantiation.
 pub(crate) fn is_last(waiting: &Waiting, inst: &Inst) -> bool
     ensures last { (p : Rank × Held) (front : List (Rank × Held))
         → IsTrue result → waiting.now.entries ≡ front ++ p ∷ [] → p.1.inst ≡ inst.now }
@@ -195,19 +194,19 @@ pub(crate) fn is_last(waiting: &Waiting, inst: &Inst) -> bool
     }
 }
 
-/// Marks the one of an instantiation where it stands. Takes no memory, and goes over all of them.
+/// Marks the entry of this instantiation in place. Allocates nothing, and scans all entries.
 pub(crate) fn mark_in_place(waiting: &mut Waiting, inst: &Inst)
     ensures entries { waiting.new.entries ≡ map (λ e. (e.0, marked_held inst.now e.1)) waiting.old.entries }
     ensures ordered { IsStrictlySortedBy compare_ranks (keys_of waiting.new.entries) }
 {
-    // `retain` keeps them all: of what it writes more is known than of what a loop over the values does
+    // `retain` keeps all entries: more is known about what it writes than about what a loop over the values does
     waiting.retain(|_, held| {
         held.fired = held.fired || is_same(&held.inst, inst);
         true
     });
 }
 
-/// Puts a mark where there is room for it.
+/// Adds a mark, for which there must be room.
 pub(crate) fn put(fired: &mut Fired, key: Key, inst: Inst)
     requires room { 0 < spare fired.old }
     requires unique { IsDistinct same_keys (keys_of fired.old.entries) }
@@ -222,7 +221,7 @@ pub(crate) fn put(fired: &mut Fired, key: Key, inst: Inst)
     }
 }
 
-/// Copies of all of them, ranked under a strategy.
+/// Copies of all entries, ranked under this strategy.
 pub(crate) fn ranked_anew(
     alloc: Global,
     strategy: Strategy,

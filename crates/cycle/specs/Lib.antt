@@ -1,4 +1,4 @@
--- What the contracts of the recognise-act cycle cite.
+-- What the contracts of the recognise-act cycle refer to.
 pub mod Settles
 pub mod Slots
 pub mod States

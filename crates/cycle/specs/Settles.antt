@@ -1,4 +1,4 @@
--- What settles a matcher: a closure, so that an engine with threads can be lent what it needs for them.
+-- What settles a matcher. It is a closure, so that an engine with threads can pass it what it needs for them.
 use Rattle.std.specs.Prelude.{◌≡◌, List, Result, IfOk}
 use Rattle.std.specs.Borrow.{Bor}
 use Rattle.ops_base.specs.declared.elements.Change.{Change}
@@ -10,8 +10,9 @@ use Rattle.work_store.specs.declared.matcher.Settled.{Settled}
 use Rattle.work_store.specs.Settling.{IsSettled}
 use Rattle.work_store.specs.Stored.{Stored}
 
--- It may be asked for every lawful list of changes. Where it has done them, the matcher stores what they make, what
--- came and went is how that which is found has changed, and the matcher stands for the programs that it stood for.
+-- It may be called with every lawful list of changes. If it succeeds, the matcher stores what the changes make, what
+-- came and went is the difference in what is found, and the matcher still implements the programs that it implemented
+-- before.
 pub record Settles {M : Type 0} (stored : M → Stored) (found : M → List Inst) (stands_for : M → List Rule → Type 0)
     (pre : M → Bor (List Change) → Type 0) (post : M → Bor (List Change) → Result (Settled M) OutOfMemory → Type 0) : Type 0 where
   pub able : (m : M) (cs : Bor (List Change)) → Lawful (stored m).elements (stored m).last cs.now → pre m cs

@@ -1,4 +1,4 @@
--- What a firing changes of a state: working memory, the marks, and the last tag.
+-- What a firing changes in a state: working memory, the marks, and the last tag.
 use Rattle.std.specs.Prelude.{ℕ, List, [], ◌∷◌, filter, not}
 use Rattle.std.specs.Ordering.{match_ordering}
 use Rattle.ops_base.specs.declared.elements.Element.{Element}
@@ -11,13 +11,13 @@ use Rattle.conflict_index.specs.Indexed.{fired_of}
 use Rattle.cycle.specs.States.{Held}
 use Rattle.cycle.specs.declared.fired.Fired.{Fired}
 
--- working memory, the marks in the order of the conflict set, and the last tag that was given
+-- working memory, the marks in the order of the conflict set, and the last tag that was assigned
 pub record Standing : Type 0 where
   pub wm : List Element
   pub fired : List Inst
   pub last : ℕ
 
--- the same of a state, where this tells what its matcher stores
+-- the same for a state, if `stored` gives the store of its matcher
 abbrev pub standing : {M : Type 0} → (M → Stored) → Held M → Standing
 standing stored s = record {
   wm = (stored s.matcher).elements;
@@ -25,16 +25,17 @@ standing stored s = record {
   last = (stored s.matcher).last;
 }
 
--- these, which stand in order, and this one at its place
+-- these instantiations, which are in order, with this one inserted at its place
 abbrev pub with_inst : Inst → List Inst → List Inst
 with_inst i [] = i ∷ []
 with_inst i (j ∷ insts) = match_ordering (by_rule_and_tags i j) (i ∷ j ∷ insts) (i ∷ insts) (j ∷ with_inst i insts)
 
--- these without those that are gone
+-- these instantiations without those that are gone
 abbrev pub without_gone : List Inst → List Inst → List Inst
 without_gone gone insts = filter (λ i. not (is_among gone i)) insts
 
--- what a firing leaves: its changes are done, it is marked, and a mark of what is gone is forgotten
+-- what a firing leaves: its changes are made, the instantiation is marked, and marks of instantiations that are gone
+-- are dropped
 abbrev pub after_firing : Fired → Standing → Standing
 after_firing f s = record {
   wm = done s.wm f.changes;

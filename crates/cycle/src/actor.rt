@@ -1,5 +1,5 @@
-//! What does the right side of an instantiation and settles a matcher by its changes: one after the other, or both at a
-//! time.
+//! Executes the right side of an instantiation and settles a matcher by its changes, either one after the other or both
+//! at the same time.
 ghost use Rattle.std.specs.Prelude.{◌≡◌, ◌<◌, ◌^◌, [], List, All, true, false, IsTrue, IfOk};
 ghost use Rattle.ops_base.specs.declared.rules.Rule.{Rule};
 ghost use Rattle.ops_base.specs.WorkingMemory.{Lawful, done, last_after, tags_of};
@@ -25,15 +25,15 @@ use std::alloc::Global;
 use std::marker::PhantomData;
 use work_store::{Matcher, Settled};
 
-/// Does right sides, and settles matchers by their changes. It is a trait, so that a session is lent how, and knows of
-/// no thread that an impl may start.
+/// Executes right sides, and settles matchers by their changes. It is a trait so that a session borrows the way to do
+/// this, and knows of no thread that an impl may start.
 pub trait Actor<M: Matcher, I: Source, K: Sink> {
-    /// It may be asked to act.
+    /// It may be asked to execute a right side.
     ghost able: { Self → Type 0 };
 
-    /// Does the right side of an instantiation over the elements that the matcher stores, as `act_phase::act` does it,
-    /// and its changes to the matcher, which is one phase: it tells what came and went in it as a whole. After a refusal
-    /// the matcher is gone.
+    /// Executes the right side of an instantiation over the elements that the matcher stores, as `act_phase::act` does,
+    /// and settles the matcher by its changes. The changes are one phase: what came and what went is returned for the
+    /// phase as a whole. After a refusal the matcher is lost.
     fn act(
         &self,
         alloc: Global,
@@ -72,7 +72,7 @@ pub trait Actor<M: Matcher, I: Source, K: Sink> {
         ensures stands { IfOk result (λ r. (rules : List Rule) → M.stands_for matcher rules → M.stands_for r.1.matcher rules) };
 }
 
-/// Does the right side, and settles the matcher once after it.
+/// Executes the right side, and settles the matcher once after it.
 #[derive(Drop)]
 pub struct InTurn<'a, M, H> {
     settle: &'a H,
@@ -80,7 +80,7 @@ pub struct InTurn<'a, M, H> {
 }
 
 impl<'a, M: Matcher, H: Fn(M, &[Change]) -> Result<Settled<M>, OutOfMemory>> InTurn<'a, M, H> {
-    /// This settles the matcher.
+    /// `settle` settles the matcher.
     pub fn new(settle: &'a H) -> InTurn<'a, M, H>
         ensures { result.settle.now ≡ settle.now }
     {

@@ -1,11 +1,11 @@
-//! What a firing tells beside the state that it leaves.
+//! What a firing returns in addition to the new state.
 
 use ops_base::elements::Change;
 use ops_base::list::Listed;
 use ops_base::rules::Inst;
 
-/// What fired, whether `halt` was done in it, its changes to working memory in order, and the instantiations that were
-/// found before its phase and are not found after it, in the order of production and tags.
+/// What fired, whether a `halt` was done in it, its changes to working memory in order, and the instantiations that
+/// were found before its phase but not after it, in the order of production and tags.
 #[derive(Drop)]
 pub struct Fired {
     pub inst: Inst,

@@ -1,4 +1,4 @@
-//! What makes matchers: a program that changes while it runs gets a new one.
+//! What makes matchers: a program that changes while it runs needs a new one.
 ghost use Rattle.std.specs.Prelude.{◌≡◌, [], List, IfOk};
 ghost use Rattle.ops_base.specs.declared.rules.Rule.{Rule};
 ghost use Rattle.ops_base.specs.WorkingMemory.{Lawful, done, last_after};
@@ -11,19 +11,19 @@ use ops_base::programs::Program;
 use std::alloc::Global;
 use work_store::{Matcher, Settled};
 
-/// Makes matchers, one for each program that is in force after another.
+/// Makes matchers, one for each program that comes into force.
 pub trait Maker {
     type M: Matcher;
 
-    /// A matcher that stands for the program and stores nothing.
+    /// A matcher that implements the program and stores nothing.
     fn make(&self, alloc: Global, program: &Program) -> Result<Self::M, OutOfMemory>
         ensures stands { IfOk result (λ m. Self.M.stands_for m program.now.rules) }
         ensures elements { IfOk result (λ m. (Self.M.stored m).elements ≡ []) }
         ensures last { IfOk result (λ m. (Self.M.stored m).last ≡ 0) };
 }
 
-/// A matcher for the program over the working memory that these changes make. It settles once, so what came is all that
-/// it finds.
+/// A matcher for the program over the working memory that these changes make. It settles once, so everything that it
+/// finds is reported as having come.
 pub fn made_over<B: Maker, H: Fn(B::M, &[Change]) -> Result<Settled<B::M>, OutOfMemory>>(
     alloc: Global,
     maker: &B,
@@ -39,7 +39,7 @@ pub fn made_over<B: Maker, H: Fn(B::M, &[Change]) -> Result<Settled<B::M>, OutOf
     ensures settled { IfOk result (λ s. IsSettled [] (B.M.found s.matcher) s.gone.items s.come.items) }
 {
     let fresh = maker.make(alloc, program)?;
-    // so nothing is found
+    // so it has found nothing
     let nothing = fresh.store().len() == 0;
     prove!(nothing);
     hand(fresh, changes)

@@ -1,11 +1,11 @@
-//! A place on the heap for a value that goes out of it and comes back.
+//! A place on the heap for a value that is taken out and put back.
 ghost use Rattle.std.specs.Prelude.{◌≡◌, IsSome, IfOk};
 
 use ops_base::memory::OutOfMemory;
 use std::alloc::Global;
 use std::marker::Model;
 
-/// A value on the heap. It can be taken out, and another put into the same place, which takes no memory.
+/// A value on the heap. It can be taken out, and another value can be put into the same place without an allocation.
 #[derive(Drop)]
 pub(crate) struct Slot<T: Drop> {
     place: Box<Option<T>>,
@@ -20,14 +20,14 @@ impl<T: Drop> Model for Slot<T> {
     ghost view = { λ s. value_of s.place.value s.full };
 }
 
-/// The place of a value that was taken out of it.
+/// The place of a value that was taken out.
 #[derive(Drop)]
 pub(crate) struct Vacated<T: Drop> {
     place: Box<Option<T>>,
 }
 
 impl<T: Drop> Slot<T> {
-    /// Takes memory for the place.
+    /// Allocates the place.
     pub(crate) fn new(alloc: Global, value: T) -> Result<Slot<T>, OutOfMemory>
         ensures { IfOk result (λ s. s ≡ value) }
     {
@@ -44,7 +44,7 @@ impl<T: Drop> Slot<T> {
         }
     }
 
-    /// The value, and its place, which is kept for the next.
+    /// The value, and its place, which is kept for the next value.
     pub(crate) fn take(self) -> (T, Vacated<T>)
         ensures { result.0 ≡ self }
     {
@@ -58,7 +58,7 @@ impl<T: Drop> Slot<T> {
 }
 
 impl<T: Drop> Vacated<T> {
-    /// A value goes into this place. Takes no memory.
+    /// Puts a value into this place. Allocates nothing.
     pub(crate) fn fill(self, value: T) -> Slot<T>
         ensures { result ≡ value }
     {

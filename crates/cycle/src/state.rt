@@ -43,8 +43,8 @@ use std::alloc::Global;
 use std::marker::Model;
 use work_store::{Matcher, Settled, Store};
 
-/// A matcher, the conflict set that it has found with the marks of those that have fired, and how many firings were
-/// made. The first two stand on the heap, so that a state is moved at a small cost whatever matcher it has.
+/// A matcher, the conflict set that it has found, with marks on the instantiations that have fired, and the number of
+/// firings. The first two are on the heap, so that a state is cheap to move whatever its matcher is.
 #[derive(Drop)]
 pub struct State<M: Matcher> {
     matcher: Slot<M>,
@@ -62,7 +62,7 @@ impl<M: Matcher> Model for State<M> {
     ghost invariant = { λ s. Agree (M.stored s.matcher) (M.found s.matcher) (M.stands_for s.matcher) s.index.value.members };
 }
 
-/// The last tag that was given. With it comes what a matcher keeps true.
+/// The last tag that was assigned. The call also gives the proof the matcher's invariants.
 fn last_of<M: Matcher>(matcher: &Slot<M>) -> u64
     ensures last { result ≡ (M.stored matcher.now).last }
     ensures kept { WellKept (M.stored matcher.now).elements (M.stored matcher.now).last }
@@ -72,7 +72,7 @@ fn last_of<M: Matcher>(matcher: &Slot<M>) -> u64
     matcher.get().store().last()
 }
 
-/// A copy of an instantiation that is there.
+/// A copy of an instantiation that exists.
 fn copy_of(alloc: Global, next: Option<&Inst>) -> Result<Inst, OutOfMemory>
     requires { IsSome next }
     ensures { IfOk result (λ i. option_copied next.entry ≡ Some i) }
@@ -83,7 +83,7 @@ fn copy_of(alloc: Global, next: Option<&Inst>) -> Result<Inst, OutOfMemory>
     }
 }
 
-/// Puts the line of the firing with this number, where firings are traced.
+/// Puts the trace line for the firing with this number, if firings are traced.
 fn put_trace<K: Sink>(
     out: &mut Out,
     sink: &mut K,
@@ -106,7 +106,8 @@ fn put_trace<K: Sink>(
     Ok(put_firing(out, sink, names, program, firing, inst)?)
 }
 
-/// Settles a matcher by what its caller lends, and puts it back into its place. After a refusal the place is gone, too.
+/// Settles a matcher by the closure that the caller passes, and puts it back into its place. After a refusal the place
+/// is lost, too.
 fn settled_by<M: Matcher, H: Fn(M, &[Change]) -> Result<Settled<M>, OutOfMemory>>(
     hand: &H,
     matcher: Slot<M>,
@@ -132,8 +133,8 @@ fn settled_by<M: Matcher, H: Fn(M, &[Change]) -> Result<Settled<M>, OutOfMemory>
     })
 }
 
-/// The right side of an instantiation and its phase, by what its caller lends. The matcher is put back into its place.
-/// After a refusal the place is gone, too.
+/// Executes the right side of an instantiation and its phase by the actor that the caller passes. The matcher is put
+/// back into its place. After a refusal the place is lost, too.
 fn acted_by<M: Matcher, A: Actor<M, I, K>, I: Source, K: Sink>(
     alloc: Global,
     actor: &A,
@@ -170,7 +171,7 @@ fn acted_by<M: Matcher, A: Actor<M, I, K>, I: Source, K: Sink>(
     ensures settled { IfOk result (λ r. IsSettled (M.found matcher) (M.found r.1.matcher) r.1.gone.items r.1.come.items) }
     ensures stands { IfOk result (λ r. (rules : List Rule) → M.stands_for matcher rules → M.stands_for r.1.matcher rules) }
 {
-    // the matcher is looked at for what it keeps true
+    // reads the matcher to get at its invariants
     let _last = last_of(&matcher);
     let (matcher, place) = matcher.take();
     let (acted, settled) = actor.act(
@@ -190,13 +191,13 @@ fn acted_by<M: Matcher, A: Actor<M, I, K>, I: Source, K: Sink>(
 }
 
 impl<M: Matcher> State<M> {
-    /// These as one state.
+    /// Combines these into one state.
     fn of(matcher: Slot<M>, index: Box<Index>, firings: u64) -> State<M>
         requires same { (i : Inst) → Contains (insts_of index.value.members) i ↔ Contains (M.found matcher) i }
         requires above { All (λ t. 0 < t) (tags_of (M.stored matcher).elements) }
         ensures { result ≡ record { matcher = matcher; index = index.value; firings = firings } }
     {
-        // the two are looked at for what they keep true
+        // reads the two to get at their invariants
         let _last = last_of(&matcher);
         let _strategy = index.strategy();
         State {
@@ -206,7 +207,7 @@ impl<M: Matcher> State<M> {
         }
     }
 
-    /// Nothing was done yet. Takes memory for the places of the matcher and of the index.
+    /// Nothing was done yet. Allocates the places of the matcher and of the index.
     pub fn start(alloc: Global, matcher: M) -> Result<State<M>, OutOfMemory>
         requires elements { (M.stored matcher).elements ≡ [] }
         requires last { (M.stored matcher).last ≡ 0 }
@@ -215,7 +216,7 @@ impl<M: Matcher> State<M> {
         ensures course { IfOk result (λ s. (names : Spellings) (coming : Coming)
             → state_course M.stored s names coming ≡ nothing_yet names coming) }
     {
-        // so nothing is found
+        // so it has found nothing
         let empty = matcher.store().len() == 0;
         prove!(empty);
         let matcher = Slot::new(alloc, matcher)?;
@@ -223,7 +224,7 @@ impl<M: Matcher> State<M> {
         Ok(State::of(matcher, index, 0))
     }
 
-    /// A state with this matcher, whose conflict set the index has. Takes memory for the places of both.
+    /// A state with this matcher, whose conflict set is that of the index. Allocates the places of both.
     pub fn adopt(
         alloc: Global,
         matcher: M,
@@ -246,7 +247,7 @@ impl<M: Matcher> State<M> {
         self.matcher.get().store()
     }
 
-    /// The conflict set, with the marks of those that have fired.
+    /// The conflict set, with marks on the instantiations that have fired.
     pub fn index(&self) -> &Index
         ensures index { result.now ≡ self.now.index }
         ensures set { (rules : List Rule) → M.stands_for self.now.matcher rules
@@ -255,14 +256,14 @@ impl<M: Matcher> State<M> {
         self.index.as_ref()
     }
 
-    /// How many firings were made.
+    /// The number of firings so far.
     pub fn firings(&self) -> u64
         ensures { result ≡ self.now.firings }
     {
         self.firings
     }
 
-    /// The last tag that was given, 0 where none was. All above it are free.
+    /// The last tag that was assigned, or 0 if none was. All greater tags are unused.
     pub fn last_tag(&self) -> u64
         ensures last { result ≡ (M.stored self.now.matcher).last }
         ensures kept { WellKept (M.stored self.now.matcher).elements (M.stored self.now.matcher).last }
@@ -271,7 +272,8 @@ impl<M: Matcher> State<M> {
         last_of(&self.matcher)
     }
 
-    /// The dominant one of those that have not fired. Takes no memory. It costs the logarithm of their number.
+    /// The dominant instantiation among those that have not fired. Allocates nothing. Its cost is logarithmic in their
+    /// number.
     pub fn next(&self) -> Option<&Inst>
         ensures waiting { MatchOption result (waiting self.now.index.members ≡ [])
             (λ i. Contains (insts_of (waiting self.now.index.members)) i.now) }
@@ -284,8 +286,8 @@ impl<M: Matcher> State<M> {
         self.index.as_ref().select()
     }
 
-    /// Does changes in their order, which is one phase: the matcher settles once, and the index takes in what that
-    /// tells. After a refusal the state is gone.
+    /// Makes changes in their order, as one phase: the matcher settles once, and the index is updated with what came
+    /// and went. After a refusal the state is lost.
     pub fn change<H: Fn(M, &[Change]) -> Result<Settled<M>, OutOfMemory>>(
         self,
         hand: &H,
@@ -311,7 +313,7 @@ impl<M: Matcher> State<M> {
             come,
             gone,
         } = settled_by(hand, matcher, changes)?;
-        // the matcher is looked at for what it keeps true
+        // reads the matcher to get at its invariants
         let _last = last_of(&matcher);
         let mut index = index;
         index
@@ -320,7 +322,7 @@ impl<M: Matcher> State<M> {
         Ok(State::of(matcher, index, firings))
     }
 
-    /// This one fires: it is marked, and one firing more is counted.
+    /// Records that this instantiation fires: marks it, and counts one more firing.
     fn mark(&mut self, inst: &Inst)
         requires member { Contains (insts_of self.old.index.members) inst.now }
         requires room { self.old.firings < 2 ^ 63 }
@@ -334,8 +336,8 @@ impl<M: Matcher> State<M> {
         self.firings += 1;
     }
 
-    /// The right side of this instantiation, and its phase: what it did, and what was found before it and is not found
-    /// after it.
+    /// Executes the right side of this instantiation, and its phase. Returns what the right side did, and what was
+    /// found before the phase but not after it.
     fn act_out<A: Actor<M, I, K>, I: Source, K: Sink>(
         self,
         alloc: Global,
@@ -387,7 +389,7 @@ impl<M: Matcher> State<M> {
             come: came,
             gone: went,
         } = settled;
-        // the matcher is looked at for what it keeps true
+        // reads the matcher to get at its invariants
         let _last = last_of(&matcher);
         let mut index = index;
         index
@@ -400,10 +402,10 @@ impl<M: Matcher> State<M> {
         ))
     }
 
-    /// One firing: its line where firings are traced, the right side of what is next, which is marked, and then one
-    /// phase. With the state come what fired, whether `halt` was done in it, its changes, and what is not found any
-    /// more. What fires is looked up in the conflict set, and marked where it stands. After a refusal the state is gone,
-    /// and names may have come; how far the input was read is not said.
+    /// One firing: puts its line if firings are traced, marks the next instantiation, executes its right side, and then
+    /// settles once. Returns the state with what fired, whether a `halt` was done in it, its changes, and the
+    /// instantiations that are no longer found. What fires is looked up in the conflict set, and marked in place. After
+    /// a refusal the state is lost, and names may have been added; no contract states how far the input was read.
     pub fn fire<A: Actor<M, I, K>, I: Source, K: Sink>(
         self,
         alloc: Global,
@@ -436,31 +438,31 @@ impl<M: Matcher> State<M> {
         ensures reads { CountsReads (is_unread result) (I.faults source.old) (I.faults source.new) }
         ensures written { is_unread result ≡ true → out.new.held ≡ [] }
 
-        // Where no `accept` stands in its right side, the input is left as it was.
+        // If its right side has no `accept`, the input is unchanged.
         ensures untouched { (i : Inst) → next_to_fire program.now.rules (alone M.stored self) ≡ Some i
             → right_side_asks program.now.rules i.rule ≡ false → (input.new ≡ input.old) × (source.new ≡ source.old) }
         ensures names { KeepsNames names.old names.new }
 
-        // Where the names hold each symbol of the program and of working memory, they hold after it those of the
-        // program and of the new working memory.
+        // If the names hold each symbol of the program and of working memory before the call, they still do after it,
+        // and they hold each symbol of the new working memory.
         ensures held { HoldsProgram names.old program.now → HoldsElements names.old (M.stored self.matcher).elements
             → HoldsProgram names.new program.now × HoldsElements names.new (M.stored self.matcher).elements
             × IfOk result (λ r. HoldsElements names.new (M.stored r.0.matcher).elements) }
         ensures stands { IfOk result (λ r. M.stands_for r.0.matcher program.now.rules) }
         ensures specificities { IfOk result (λ r. KeepsSpecificities program.now.rules r.0.index.members) }
 
-        // What fired was next. Its changes can be done in turn to the working memory before it, and with what is gone
-        // they give the working memory, the marks and the last tag after it.
+        // What fired was the next instantiation. Its changes can be made in their order to the working memory before
+        // it. These changes and `gone` determine the working memory, the marks and the last tag after it.
         ensures inst { IfOk result (λ r. next_to_fire program.now.rules (alone M.stored self) ≡ Some r.1.inst) }
         ensures lawful { IfOk result (λ r. Lawful (M.stored self.matcher).elements (M.stored self.matcher).last r.1.changes) }
         ensures leaves { IfOk result (λ r. standing M.stored r.0 ≡ after_firing r.1 (standing M.stored self)) }
     {
         let mut state = self;
-        // whoever asked for a firing has looked for what is next, and it is looked up here once more
+        // the caller has already looked for the next instantiation; it is looked up here once more
         let inst = copy_of(alloc, state.next())?;
         let firing = state.firings() + 1;
         put_trace(out, sink, names, program, watch, firing, &inst)?;
-        // the state is looked at for what it keeps true
+        // reads the state to get at its invariants
         let _last = state.last_tag();
         state.mark(&inst);
         let (state, acted, gone) = state.act_out(
@@ -475,8 +477,8 @@ impl<M: Matcher> State<M> {
         Ok((state, fired))
     }
 
-    /// The conflict set and its marks stay. Those that have not fired are copied into another order, which costs their
-    /// number times its logarithm. Where memory runs out nothing has changed.
+    /// The conflict set and its marks stay. The instantiations that have not fired are copied into another order: for n
+    /// of them, this costs n log n. If memory runs out, nothing has changed.
     pub fn set_strategy(&mut self, strategy: Strategy) -> Result<(), OutOfMemory>
         ensures ok { OnOk result (self.new ≡ record self.old { index = record self.old.index { strategy = strategy } }) }
         ensures course { OnOk result ((names : Spellings) (coming : Coming) → state_course M.stored self.new names coming
@@ -486,7 +488,7 @@ impl<M: Matcher> State<M> {
         self.index.as_mut().set_strategy(strategy)
     }
 
-    /// Its matcher, its index, how many firings were made, and the last tag that was given. Takes no memory.
+    /// Its matcher, its index, the number of firings, and the last tag that was assigned. Allocates nothing.
     pub fn apart(self) -> (M, Index, u64, u64)
         ensures matcher { result.0 ≡ self.matcher }
         ensures index { result.1 ≡ self.index }
@@ -494,7 +496,7 @@ impl<M: Matcher> State<M> {
         ensures last { result.3 ≡ (M.stored self.matcher).last }
         ensures agree { Agree (M.stored self.matcher) (M.found self.matcher) (M.stands_for self.matcher) self.index.members }
     {
-        // the two are looked at for what they keep true
+        // reads the two to get at their invariants
         let last = last_of(&self.matcher);
         let _strategy = self.index.strategy();
         let State {

@@ -2,7 +2,7 @@
 use Rattle.std.specs.Prelude.{ℕ, ◌==◌, List, ◌++◌, map, take, drop, slice_range, if◌then◌else◌}
 use Rattle.fault_search.specs.declared.forms.Span.{Span}
 
--- an LF stays, and a space stands for any other byte
+-- an LF stays, and a space replaces any other byte
 abbrev pub blank : ℕ → ℕ
 blank b = if b == 10 then 10 else 32
 

@@ -7,6 +7,6 @@ abbrev pub fault_of_read : Result Read Placed → Option PlacedFault
 fault_of_read (Ok r) = None
 fault_of_read (Err p) = Some (record { fault = p.fault; at = p.at })
 
--- the fault that a text is refused for; none where it is a program
+-- the fault for which a text is refused; none if it is a program
 abbrev pub fault_of_text : List ℕ → Option PlacedFault
 fault_of_text text = fault_of_read (reads text)

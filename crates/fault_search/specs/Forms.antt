@@ -1,4 +1,4 @@
--- Where the forms of a text stand, by its brackets. No bracket counts in a comment or between bars.
+-- The ranges of the forms of a text, determined by its brackets. Brackets in comments and between bars do not count.
 use Rattle.std.specs.Prelude.{ℕ, ◌+◌, ◌-◌, ◌==◌, List, [], ◌∷◌, take, drop, if◌then◌else◌, Option, Some, None}
 use Rattle.fault_search.specs.declared.forms.Within.{Within}
 use Rattle.fault_search.specs.declared.forms.Within.TheVariants as within
@@ -8,7 +8,7 @@ use Rattle.fault_search.specs.declared.forms.Span.{Span}
 abbrev pub at_start : State
 at_start = record { at = 0; depth = 0; first = 0; within = within.Words }
 
--- after an opening bracket, which begins a form where none is open
+-- after an opening bracket, which begins a form if none is open
 abbrev pub after_opening : State → State
 after_opening s = record { at = s.at + 1; depth = s.depth + 1; first = if s.depth == 0 then s.at else s.first; within = within.Words }
 
@@ -41,7 +41,7 @@ after_bytes s (b ∷ bs) = after_bytes (after_byte s b) bs
 abbrev pub state_at : List ℕ → ℕ → State
 state_at text at = after_bytes at_start (take at text)
 
--- where the form ends that is open before these bytes: after the bracket that closes it, or where the text ends
+-- the end of the form that is open before these bytes: after the bracket that closes it, or at the end of the text
 abbrev pub end_of : State → List ℕ → ℕ
 end_of s [] = s.at
 end_of s (b ∷ bs) = let next = after_byte s b in if next.depth == 0 then next.at else end_of next bs

@@ -19,8 +19,8 @@ abbrev pub text_by : List ℕ → Option Span → Option (List ℕ)
 text_by text None = None
 text_by text (Some form) = if declares text form.first then None else Some (blanked text form)
 
--- The text in which to look on after a fault at this place: that without the form that is open there. There is none
--- where no form is open, or where that form declares something, which the forms after it may need.
+-- The text in which the search continues after a fault at this place: the text without the form that is open there.
+-- There is none if no form is open, or if that form declares something, which the forms after it may need.
 abbrev pub text_after : List ℕ → ℕ → Option (List ℕ)
 text_after text at = text_by text (form_at text at)
 
@@ -32,7 +32,7 @@ abbrev pub found_by : (List ℕ → List PlacedFault) → List ℕ → Option Pl
 found_by search text None = []
 found_by search text (Some f) = f ∷ found_in search (text_after text f.at)
 
--- at most so many faults of a text: its first one, and those of the text in which to look on after it
+-- at most this many faults of a text: its first one, and those of the text in which the search continues after it
 abbrev pub faults_of : ℕ → List ℕ → List PlacedFault
 faults_of zero text = []
 faults_of (suc n) text = found_by (faults_of n) text (fault_of_text text)

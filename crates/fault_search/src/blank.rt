@@ -17,7 +17,7 @@ fn blanks(alloc: Global, bytes: &[u8]) -> Result<Vec<u8>, AllocError>
     bytes.iter().map(|byte| blank(*byte)).collect(alloc)
 }
 
-/// A text with a space for each byte of this part, but for ends of lines.
+/// The text with each byte of this part replaced by a space, except ends of lines.
 pub fn blanked(alloc: Global, text: &[u8], part: Span) -> Result<Vec<u8>, AllocError>
     requires ordered { part.first ≤ part.past }
     requires within { part.past ≤ length text.now }

@@ -1,4 +1,4 @@
-//! The first fault of a text, with the byte at which it stands.
+//! The first fault of a text, with the byte at which it is.
 ghost use Rattle.std.specs.Prelude.{◌≡◌, ℕ, ◌+◌, ◌<◌, ◌≤◌, ◌^◌, ◌==◌, if◌then◌else◌, length, IfOk, IfSome, true, false};
 ghost use Rattle.ops_grammar.specs.Places.{line_of, column_of};
 ghost use Rattle.fault_search.specs.First.{fault_of_text};
@@ -9,7 +9,7 @@ use ops_check::{ProgramFault, read_program};
 use ops_forms::Place;
 use std::alloc::Global;
 
-/// A fault of a text, and the byte at which it stands.
+/// A fault of a text, and the byte at which it is.
 #[derive(Clone, Copy, Debug, PartialEq, Eq)]
 pub struct PlacedFault {
     pub fault: Fault,
@@ -57,7 +57,7 @@ fn byte_at(text: &[u8], place: Place) -> usize
     text.len()
 }
 
-/// The first fault of a text, or None if it is a program. Takes the time of reading it, and memory for it.
+/// The first fault of a text, or None if it is a program. Takes as much time and memory as reading the text.
 pub fn first_fault(alloc: Global, text: &[u8]) -> Result<Option<PlacedFault>, OutOfMemory>
     ensures fault { IfOk result (λ found. found ≡ fault_of_text text.now) }
     ensures within { IfOk result (λ found. IfSome found (λ f. f.at ≤ length text.now)) }

@@ -1,8 +1,8 @@
-//! Where the forms of a text stand, by its brackets.
+//! The ranges of the forms of a text, determined by its brackets.
 ghost use Rattle.std.specs.Prelude.{◌≡◌, ◌+◌, ◌<◌, ◌≤◌, ◌^◌, length, IfSome};
 ghost use Rattle.fault_search.specs.Forms.{after_byte, after_word, state_at, end_of, form_at};
 
-/// What a byte stands in.
+/// What surrounds a byte.
 #[derive(Clone, Copy, Debug, PartialEq, Eq)]
 pub(crate) enum Within {
     Words,
@@ -22,7 +22,7 @@ pub(crate) struct State {
     within: Within,
 }
 
-/// The bytes of a text from `first` up to `past`.
+/// The bytes of a text from `first` up to but not including `past`.
 #[derive(Clone, Copy, Debug, PartialEq, Eq)]
 pub struct Span {
     pub first: usize,
@@ -113,7 +113,7 @@ fn state_at(text: &[u8], at: usize) -> State
     state
 }
 
-// where the form ends that is open before these bytes
+// the end of the form that is open before these bytes
 fn end_of(state: State, rest: &[u8]) -> usize
     requires at { state.at + length rest.now < 2 ^ 63 }
     requires depth { state.depth ≤ state.at }
@@ -131,8 +131,8 @@ fn end_of(state: State, rest: &[u8]) -> usize
     state.at
 }
 
-/// The form that is open at a place of a text, or None if none is. A form that is not closed ends with the text. Takes
-/// time in proportion to the text up to the end of the form.
+/// The form that is open at a place of a text, or None if none is. A form that is not closed ends at the end of the
+/// text. Takes time in proportion to the text up to the end of the form.
 pub fn form_at(text: &[u8], at: usize) -> Option<Span>
     requires { at ≤ length text.now }
     ensures form { result ≡ form_at text.now at }

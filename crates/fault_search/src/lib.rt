@@ -1,4 +1,4 @@
-//! All faults of a text: the form of each is blanked out, and the text is read again.
+//! All faults of a text: the form that contains each fault is blanked out, and the text is read again.
 #![tactic(auto)]
 
 mod blank;

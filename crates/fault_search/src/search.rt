@@ -28,7 +28,7 @@ fn declares(text: &[u8], first: usize) -> bool
     }
 }
 
-/// The text in which to look on after a fault at this place.
+/// The text in which the search continues after a fault at this place.
 fn text_after(alloc: Global, text: &[u8], at: usize) -> Result<Option<Vec<u8>>, OutOfMemory>
     requires { at ≤ length text.now }
     ensures text { IfOk result (λ next. option_map (λ v. v.items) next ≡ text_after text.now at) }
@@ -43,8 +43,8 @@ fn text_after(alloc: Global, text: &[u8], at: usize) -> Result<Option<Vec<u8>>, 
     Ok(Some(blanked(alloc, text, form)?))
 }
 
-/// The faults of a text, at most this many. After each the form in which it stands is blanked out, and the text is read
-/// again: one fault takes the time of reading the text, and memory in proportion to it.
+/// The faults of a text, at most this many. After each fault, the form that contains it is blanked out, and the text
+/// is read again: one fault takes as much time as reading the text, and memory in proportion to it.
 pub fn all_faults(alloc: Global, text: &[u8], most: usize) -> Result<Vec<PlacedFault>, OutOfMemory>
     ensures faults { IfOk result (λ found. found.items ≡ faults_of most text.now) }
     ensures within { IfOk result (λ found. All (λ f. f.at ≤ length text.now) found.items) }

@@ -1,4 +1,4 @@
--- What workers promise, and what all of them did together.
+-- What each worker promises, and what all of them did together.
 use Rattle.std.specs.Prelude.{◌≡◌, ◌<◌, ℕ, ◌+◌, List, [], ◌∷◌, ◌++◌, map, Some}
 use Rattle.work_store.specs.Stored.{Stored, held_of}
 use Rattle.net_base.specs.declared.nodes.Node.{Node}
@@ -26,7 +26,8 @@ pub record Round : Type 0 where
   pub line : ℕ
   pub entry : Entry
 
--- the rows of a round: the worker took the task, the line got the entry, the worker finished with the entry's children
+-- the rows of a round: the worker took the task, the line got the entry, the worker finished it with the entry's
+-- children
 abbrev pub rows_of_round : ℕ → Round → List (Row SlotEntry)
 rows_of_round worker x =
     record { pass = worker + 1; cell = 0; entry = OfPool (Take worker x.entry.task) }
@@ -38,24 +39,24 @@ abbrev pub rows_of_rounds : ℕ → List Round → List (Row SlotEntry)
 rows_of_rounds worker [] = []
 rows_of_rounds worker (x ∷ xs) = rows_of_round worker x ++ rows_of_rounds worker xs
 
--- each round has one of this many lines
+-- the line of each round is one of this many
 abbrev pub AreInside : ℕ → List Round → Type 0
 AreInside lines [] = Unit {0}
 AreInside lines (x ∷ xs) = (x.line < lines) × AreInside lines xs
 
--- what the worker gave to cells are whole rounds
+-- what the worker gave to cells forms whole rounds
 pub record HasWorked (lines worker : ℕ) (own : List (Row SlotEntry)) : Type 0 where
   pub rounds : List Round
   pub inside : AreInside lines rounds
   pub own_is : own ≡ rows_of_rounds worker rounds
 
--- the first pass made nothing itself, and was joined with the pass of each worker, which has worked
+-- the first pass gave nothing itself, and was joined with the pass of each worker, which has worked
 pub record HaveWorked (lines workers : ℕ) (v : View Slot SlotEntry) : Type 0 where
   pub own : v.own ≡ []
   pub splits : v.splits ≡ workers
   pub each : (w : ℕ) → w < workers → (place : ℕ) × (share : Share SlotEntry) × IsAt v.joined place share × (share.pass ≡ w + 1) × HasWorked lines w share.rows
 
--- someone saw the pool quiet
+-- some worker saw the pool quiet
 pub record SawQuiet (first : List Task) (seen : List (Sight SlotEntry)) : Type 0 where
   pub place : ℕ
   pub sight : Sight SlotEntry
@@ -65,7 +66,7 @@ pub record SawQuiet (first : List Task) (seen : List (Sight SlotEntry)) : Type 0
   pub list_is : sight.list ≡ map OfPool list
   pub quiet : IsQuiet first list
 
--- someone saw that this worker had stopped
+-- some worker saw that this worker had stopped
 pub record SawStop (by : ℕ) (seen : List (Sight SlotEntry)) : Type 0 where
   pub place : ℕ
   pub sight : Sight SlotEntry
@@ -75,12 +76,12 @@ pub record SawStop (by : ℕ) (seen : List (Sight SlotEntry)) : Type 0 where
   pub list_is : sight.list ≡ map OfPool list
   pub stopped : first_stop list ≡ Some by
 
--- each slot is as when the cells were made
+-- each slot is as it was when the cells were made
 abbrev pub AreFresh : List Slot → Type 0
 AreFresh values = (cell : ℕ) (x : Slot) → IsAt values cell x → IsFresh x
 
--- Where each worker has worked and one saw the pool quiet, the lines at the end are drained of the tasks with which the
--- pool began.
+-- If each worker has worked and one saw the pool quiet, the lines at the end are drained of the tasks that the pool
+-- began with.
 abbrev pub ShareLaw : Type 0
 ShareLaw =
     (nodes : List Node) (s : Stored) (lines workers : ℕ) (first : List Task) (v : View Slot SlotEntry) (lasts : List Slot) (log : List (Row SlotEntry))

@@ -34,12 +34,12 @@ RoundDone lines w first p q Nothing = (q.own ≡ p.own) × ((n : ℕ) × SeesUnf
 RoundDone lines w first p q Quiet = (q.own ≡ p.own) × SawQuiet first q.seen
 RoundDone lines w first p q Broken = HasEndedEarly w q
 
--- the cells as they are set up are a table
+-- the cells as they are set up form a table
 abbrev pub SetUpLaw : Type 0
 SetUpLaw = (net : Net) (s : Stored) (lines workers : ℕ) (first : List Task) (values : List Slot) → IsSetUp net s lines workers first values → IsTable net.nodes s lines first values
 
--- From any lines, with a fresh pool of the tasks that wait: where each worker has worked and one saw the pool quiet,
--- each phase that was on its way in the lines is on its way in the closed ones, and nothing waits.
+-- From any lines, with a fresh pool of the tasks that are waiting: if each worker has worked and one saw the pool
+-- quiet, each phase that was in progress in the lines is in progress in the closed ones, and nothing is waiting.
 abbrev pub EndLaw : Type 0
 EndLaw =
     (alphas : List Alpha) (nodes : List Node) (s : Stored) (lines workers : ℕ) (wm : List Element) (changes : List Change) (first : List Task)

@@ -1,4 +1,4 @@
--- Which answers of a take fit a network and a store.
+-- Which results of a take fit a network and a store.
 use Rattle.std.specs.Prelude.{List}
 use Rattle.work_store.specs.Stored.{Stored}
 use Rattle.net_base.specs.declared.nodes.Node.{Node}

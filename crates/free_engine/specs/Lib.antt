@@ -1,4 +1,4 @@
--- An engine between two settles, what workers do with the pool and the lines, and what comes of it.
+-- An engine between two settles, what workers do with the pool and the lines, and what results.
 pub mod Fitting
 pub mod Phased
 pub mod Drained

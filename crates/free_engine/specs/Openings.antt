@@ -10,7 +10,7 @@ use Rattle.free_engine.specs.declared.slots.Slot.TheVariants.{Pool as InPool, Li
 use Rattle.free_engine.specs.Slots.{IsFresh}
 use Rattle.free_engine.specs.Turns.{HasPool}
 
--- this line stands in the cell, as one of this many, over this network and store, and stood so when the cell was made
+-- the cell contains this line, as one of this many, over this network and store, and did so when the cell was made
 pub record IsOfLine (net : Net) (s : Stored) (lines : ℕ) (line : Line) (c : LineCell) : Type 0 where
   pub has_net : c.net.value ≡ net
   pub has_store : c.store.value ≡ s
@@ -23,14 +23,14 @@ abbrev pub IsRowOfLine : Net → Stored → ℕ → Line → Slot → Type 0
 IsRowOfLine net s lines line (InPool q) = ⊥
 IsRowOfLine net s lines line (InLine l) = IsOfLine net s lines line l.value
 
--- each of these lines stands in its slot
+-- each of these lines is in its slot
 abbrev pub AreRows : Net → Stored → ℕ → List Line → List Slot → Type 0
 AreRows net s lines [] [] = Unit {0}
 AreRows net s lines [] (x ∷ xs) = ⊥
 AreRows net s lines (l ∷ ls) [] = ⊥
 AreRows net s lines (l ∷ ls) (x ∷ xs) = IsRowOfLine net s lines l x × AreRows net s lines ls xs
 
--- a fresh pool of these tasks, and then these lines, of this many all in all
+-- a fresh pool of these tasks, followed by these lines, out of this many in total
 pub record IsOpened (net : Net) (s : Stored) (workers : ℕ) (first : List Task) (count : ℕ) (lines : List Line) (values : List Slot) : Type 0 where
   pub pool : Slot
   pub rows : List Slot

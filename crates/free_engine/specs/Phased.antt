@@ -1,4 +1,4 @@
--- A line whose phase stays lawful, as a fact that has one proof at most.
+-- A line whose phase stays lawful, as a fact that has at most one proof.
 use Rattle.std.specs.Prelude.{ℕ, List, [], ◌∷◌}
 use Rattle.std.proofs.Props.{props}
 use Rattle.work_store.specs.Stored.{Stored, held_of}
@@ -11,7 +11,7 @@ use Rattle.step_core.specs.Phases.{AreLawful, IsPhase, before}
 use Rattle.step_core.specs.Machine.{Placing, Seen}
 use Rattle.step_core.specs.Worlds.{placed, seen}
 
--- where the phase of the line was lawful when it stood so, as line `number` of this many, it is lawful now
+-- if the phase of the line was lawful in its old state, as line `number` of this many, it is lawful now
 abbrev pub KeepsPhase : List Node → Stored → ℕ → ℕ → Line → Line → Type 0
 KeepsPhase nodes s lines number was now =
     IsPhase (held_of s) nodes (placed (held_of s) nodes lines) number (seen was) → IsPhase (held_of s) nodes (placed (held_of s) nodes lines) number (seen now)

@@ -1,4 +1,4 @@
--- The cells of a phase, as a fact that has one proof at most.
+-- The cells of a phase, as a fact that has at most one proof.
 use Rattle.std.specs.Prelude.{ℕ, List}
 use Rattle.std.specs.Coded.{codes}
 use Rattle.std.proofs.Props.{props}

@@ -1,4 +1,4 @@
--- What a slot stands for: the pool or a line.
+-- The content of a slot: the pool or a line.
 use Rattle.std.specs.Prelude.{◌≡◌, ◌<◌, ℕ, ◌+◌, List, [], ◌∷◌, ◌++◌, Option, Some, None, length, map}
 use Rattle.net_base.specs.declared.tasks.Task.{Task}
 use Rattle.token_line.specs.Numbers.{line_number}
@@ -18,7 +18,7 @@ use Rattle.free_engine.specs.declared.slots.SlotEntry.TheVariants.{OfPool, OfLin
 use Rattle.free_engine.specs.declared.slots.SlotName.{SlotName}
 use Rattle.free_engine.specs.declared.slots.SlotName.TheVariants.{PoolName, LineName}
 
--- the entries of a slot, of one type
+-- the entries of a slot, in one type
 abbrev pub entries : Slot → List SlotEntry
 entries (InPool q) = map OfPool q.value.pool.entries.items
 entries (InLine l) = map OfLine l.value.line.entries.items
@@ -39,12 +39,12 @@ abbrev pub signature : SlotEntry → Option ℕ
 signature (OfPool e) = Some (worker_of e + 1)
 signature (OfLine e) = None
 
--- the pool stands in the slot
+-- the slot contains the pool
 abbrev pub IsPool : Slot → Type 0
 IsPool (InPool q) = Unit {0}
 IsPool (InLine l) = ⊥
 
--- a pool that has no entry yet, or a line that stands as when its cell was made
+-- a pool that has no entry yet, or a line that is as it was when its cell was made
 abbrev pub IsFresh : Slot → Type 0
 IsFresh (InPool q) = q.value.pool.entries.items ≡ []
 IsFresh (InLine l) = l.value.first.value ≡ l.value.line
@@ -72,7 +72,7 @@ abbrev pub store_in : Slot → Stored
 store_in (InPool q) = q.value.store.value
 store_in (InLine l) = l.value.store.value
 
--- this task has the line in the slot, over this network and store
+-- this task belongs to the line in the slot, over this network and store
 pub record IsLineFor (net : Net) (s : Stored) (x : Task) (c : LineCell) : Type 0 where
   pub has_net : c.net.value ≡ net
   pub has_store : c.store.value ≡ s
@@ -83,7 +83,7 @@ abbrev pub IsSlotFor : Net → Stored → Task → Slot → Type 0
 IsSlotFor net s x (InPool q) = ⊥
 IsSlotFor net s x (InLine l) = IsLineFor net s x l.value
 
--- no task waits, and this many are unfinished, one at least
+-- no task is waiting, and this many are unfinished, at least one
 pub record AreUnfinished (first : List Task) (es : List PoolEntry) (n : ℕ) : Type 0 where
   pub queue : (played first es).queue ≡ []
   pub busy : length (played first es).busy ≡ n

@@ -1,4 +1,4 @@
--- Cells in which a pool and lines stand.
+-- Cells that contain a pool and lines.
 use Rattle.std.specs.Prelude.{◌≡◌, ℕ, List, [], ◌∷◌, pos, map, length, slice_get, Some}
 use Rattle.work_store.specs.Stored.{Stored}
 use Rattle.net_base.specs.declared.nodes.Node.{Node}
@@ -26,16 +26,16 @@ abbrev pub BeganWith : List Task → Slot → Type 0
 BeganWith first (InPool q) = q.value.pool.first.value.items ≡ first
 BeganWith first (InLine l) = ⊥
 
--- a line on which nothing stands
+-- a line without tokens or entries
 abbrev pub nothing_seen : Seen
 nothing_seen = record { sums = λ n s t. pos 0; entries = [] }
 
--- what is seen of the line in a slot
+-- the contracts' view of the line in a slot
 abbrev pub seen_in : Slot → Seen
 seen_in (InPool q) = nothing_seen
 seen_in (InLine l) = seen l.value.line
 
--- what is seen of the lines, which stand in the cells after the pool's
+-- the contracts' view of the lines, which are in the cells after the pool's
 abbrev pub lines_in : List Slot → List Seen
 lines_in [] = []
 lines_in (x ∷ xs) = map seen_in xs

@@ -18,14 +18,15 @@ SlotCells = Cells Slot SlotEntry SlotName
 abbrev pub SlotPass : Type 0
 SlotPass = Pass Slot SlotEntry SlotName
 
--- it is the first pass, which made nothing itself; this many were split from it, and this many of these are not joined
+-- it is the first pass, which gave nothing itself; this many passes were split from it, and this many of these are
+-- not joined
 pub record Leads (cells : SlotCells) (split apart : ℕ) (p : SlotPass) : Type 0 where
   pub first : IsFirstOf cells p
   pub own : (knows p).own ≡ []
   pub split_is : splits p ≡ split
   pub apart_is : split_off p ≡ apart
 
--- each pass is that of the next worker, which has made nothing
+-- each pass is that of the next worker, which has given nothing
 abbrev pub AreReady : SlotCells → List SlotPass → Type 0
 AreReady cells passes = (i : ℕ) (d : SlotPass) → i < length passes → IsPassOf cells (slice_index_or passes i d) × (number (slice_index_or passes i d) ≡ i + 1) × ((knows (slice_index_or passes i d)).own ≡ [])
 
@@ -36,7 +37,8 @@ pub record CanWork (workers : ℕ) (cells : SlotCells) (p : SlotPass) : Type 0 w
   pub few : number p ≤ workers
   pub fresh : (knows p).own ≡ []
 
--- A worker's pass of this number is back. Where all went well the worker did whole rounds, and saw the pool quiet.
+-- The pass of the worker with this number is back. If the worker succeeded, it did whole rounds and saw the pool
+-- quiet.
 pub record HasEnded (lines : ℕ) (first : List Task) (cells : SlotCells) (of : ℕ) (e : SlotPass × Bool) : Type 0 where
   pub pass : IsPassOf cells e.0
   pub number_is : number e.0 ≡ of

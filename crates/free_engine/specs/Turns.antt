@@ -1,4 +1,4 @@
--- What turns of a worker add to its rows.
+-- What the turns of a worker add to its rows.
 use Rattle.std.specs.Prelude.{◌≡◌, ℕ, ◌+◌, Bool, false, List, [], ◌∷◌, ◌++◌, length, map}
 use Rattle.work_store.specs.Stored.{Stored}
 use Rattle.net_base.specs.declared.net.Net.{Net}
@@ -37,12 +37,12 @@ pub record IsRowFor (net : Net) (s : Stored) (lines i : ℕ) (c : LineCell) : Ty
   pub of_lines : c.lines ≡ lines
   pub is_number : c.line.number ≡ i
 
--- such a pool stands in the slot
+-- the slot contains such a pool
 abbrev pub HasPool : Net → Stored → ℕ → List Task → Slot → Type 0
 HasPool net s workers first (InPool q) = IsPoolFor net s workers first q.value
 HasPool net s workers first (InLine l) = ⊥
 
--- such a line stands in the slot
+-- the slot contains such a line
 abbrev pub HasRow : Net → Stored → ℕ → ℕ → Slot → Type 0
 HasRow net s lines i (InPool q) = ⊥
 HasRow net s lines i (InLine l) = IsRowFor net s lines i l.value
@@ -55,13 +55,13 @@ pub record IsSetUp (net : Net) (s : Stored) (lines workers : ℕ) (first : List 
 
 -- ---- a worker's rows
 
--- whether the worker holds a task after these entries, where it did so or did not before
+-- whether the worker holds a task after these entries, given whether it held one before
 abbrev pub holds_slots : ℕ → Bool → List SlotEntry → Bool
 holds_slots w b [] = b
 holds_slots w b (OfPool e ∷ es) = holds_slots w (holds_after w b e) es
 holds_slots w b (OfLine e ∷ es) = holds_slots w b es
 
--- the last that the worker did in the pool is a take
+-- the worker's last entry in the pool is a take
 abbrev pub has_taken : ℕ → List (ARow SlotEntry) → Bool
 has_taken w rows = holds_slots w false (given_to 0 rows)
 
@@ -69,7 +69,7 @@ has_taken w rows = holds_slots w false (given_to 0 rows)
 abbrev pub a_row : ℕ → ℕ → SlotEntry → List (ARow SlotEntry)
 a_row w cell e = record { pass = w + 1; cell = cell; entry = e } ∷ []
 
--- the last that was seen since is the pool, where no task waits and this many are unfinished
+-- the last sight since then is of the pool, in which no task is waiting and this many are unfinished
 abbrev pub SeesUnfinished : List Task → ℕ → List (Sight SlotEntry) → List (Sight SlotEntry) → Type 0
 SeesUnfinished first n old new =
     (since : List (Sight SlotEntry)) × (list : List PoolEntry) × (new ≡ (old ++ since) ++ record { cell = 0; list = map OfPool list } ∷ []) × AreUnfinished first list n

@@ -1,4 +1,5 @@
-//! The pool and the lines as a shared phase has them, with the network and the store of the phase.
+//! The pool and the lines in the form in which a shared phase holds them, with the network and the store of the
+//! phase.
 ghost use Rattle.std.specs.Prelude.{◌≡◌, ℕ, List, [], ◌∷◌, ◌++◌, All, OnOk, OnErr, ◌<◌, true, false};
 ghost use Rattle.task_pool.specs.declared.pool.PoolEntry.TheVariants.{Finish as FinishEntry, Stop as StopEntry};
 ghost use Rattle.task_pool.specs.Pools.{holds, TakeSays};
@@ -22,8 +23,8 @@ use task_pool::{Pool, Taken};
 use token_line::Line;
 use work_store::Store;
 
-/// A line, with what it was when its cell was made, and the network and the store of the phase. Contracts alone see
-/// these and the number of all lines.
+/// A line, its state when its cell was made, and the network and the store of the phase. Only contracts can see the
+/// latter three and the number of all lines.
 #[derive(Drop)]
 pub(crate) struct LineCell {
     pub(crate) line: Line,
@@ -36,7 +37,7 @@ pub(crate) struct LineCell {
     ghost phased: { KeepsPhase net.value.nodes store.value lines line.number first.value line } by { phased_prop net.value.nodes store.value lines line.number first.value line },
 }
 
-/// The pool, with the network and the store of the phase, which contracts alone see.
+/// The pool, with the network and the store of the phase, which only contracts can see.
 #[derive(Drop)]
 pub(crate) struct PoolCell {
     pub(crate) pool: Pool,
@@ -46,8 +47,8 @@ pub(crate) struct PoolCell {
 }
 
 impl LineCell {
-    /// Does a task whose line this is and whose code this is: it becomes an entry with the children that are put out.
-    /// It costs what `activation::activate_coded` costs. Where memory runs out nothing has changed.
+    /// Performs a task that belongs to this line and has this code: it becomes an entry, with the children that are
+    /// put out. It costs what `activation::activate_coded` costs. If memory runs out, nothing has changed.
     pub(crate) fn activate(
         &mut self,
         alloc: Global,
@@ -80,7 +81,7 @@ impl LineCell {
 }
 
 impl PoolCell {
-    /// Takes a task, which fits. It costs what `Pool::take` costs.
+    /// Takes a task, which fits, at the cost of `Pool::take`.
     pub(crate) fn take(&mut self, worker: usize) -> Taken
         requires worker { worker < self.old.pool.workers.value }
         requires free { holds worker self.old.pool.entries.items ≡ false }
@@ -94,7 +95,7 @@ impl PoolCell {
         self.pool.take(worker)
     }
 
-    /// Finishes the task that the worker holds. Its children fit. Where memory runs out nothing has changed.
+    /// Finishes the task that the worker holds. Its children fit. If memory runs out, nothing has changed.
     pub(crate) fn finish(
         &mut self,
         alloc: Global,
@@ -117,7 +118,7 @@ impl PoolCell {
         }
     }
 
-    /// The worker leaves the task that it holds, and no task is taken from then on. Takes no memory.
+    /// The worker abandons the task that it holds, and no task is taken from then on. Takes no memory.
     pub(crate) fn stop(&mut self, worker: usize)
         requires holds { holds worker self.old.pool.entries.items ≡ true }
         ensures entries { self.new.pool.entries.items ≡ self.old.pool.entries.items ++ StopEntry worker ∷ [] }

@@ -1,4 +1,4 @@
-//! The engine of free workers: a matcher over a network whose tasks are done by several threads in any order.
+//! The engine of free workers: a matcher over a network whose tasks are performed by several threads in any order.
 ghost use Rattle.std.specs.Prelude.{◌≡◌, ◌≤◌, ◌^◌, All, IfOk, [], length, map};
 ghost use Rattle.work_store.specs.Stored.{held_of, nothing_stored};
 ghost use Rattle.activation.specs.Acting.{TellsOfLasts};
@@ -22,7 +22,7 @@ use team_phase::Sharing;
 use token_line::Line;
 use work_store::{Matcher, Settled, Store};
 
-/// What an engine is made of.
+/// The parts of an engine.
 #[derive(Drop)]
 struct Parts<G> {
     net: Net,
@@ -32,9 +32,9 @@ struct Parts<G> {
     sharing: Sharing,
 }
 
-/// A matcher over a network. Between two settles its lines hold just the tokens that stand at each node over its store,
-/// each once. The gate is called just before each activation, with the number of the worker, or with worker 0 on the
-/// calling thread, and with the number of the line. An engine stands on the heap, so that it is moved at a small cost.
+/// A matcher over a network. Between two settles, its lines hold exactly the tokens at each node over its store, each
+/// once. The gate is called just before each activation with the number of the worker (0 on the calling thread) and
+/// the number of the line. An engine is heap-allocated, so that moving it is cheap.
 #[derive(Drop)]
 pub struct FreeEngine<G> {
     parts: Box<Parts<G>>,
@@ -49,7 +49,7 @@ impl<G> Model for FreeEngine<G> {
 
     ghost Value = { Engine };
 
-    // Networks, worlds and the sharing of phases are told apart as their own types tell them.
+    // Networks, worlds and the sharing of phases are distinguished as in their own types.
     ghost coded = { Prim.hlevel (codes, nets.the_row.coded, worlds.the_row.coded, sharings.the_row.coded) };
 
     ghost view = { λ e. record { net = e.parts.value.net; store = e.parts.value.store; world = e.parts.value.world; sharing = e.parts.value.sharing } };
@@ -58,8 +58,8 @@ impl<G> Model for FreeEngine<G> {
 }
 
 impl<G: Drop> FreeEngine<G> {
-    /// An engine over the network with this many lines and workers. Nothing is stored. It makes each line and looks at
-    /// each node, takes memory for its own place, and starts no thread.
+    /// An engine over the network with this many lines and workers, and an empty store. It makes each line and looks
+    /// at each node, allocates its own place on the heap, and starts no thread.
     pub fn new(
         alloc: Global,
         net: Net,
@@ -116,21 +116,23 @@ impl<G: Gate + Drop> FreeEngine<G> {
     pub fn lines(&self) -> &[Line]
         ensures lines { result.now ≡ self.now.world.lines.items }
         ensures numbered { AreNumbered result.now }
-        // They hold just the tokens over the store.
+        // They hold exactly the tokens over the store.
         ensures hold { HoldJust (placed (held_of self.now.store) self.now.net.nodes (length result.now)) (sums_over self.now.store.elements self.now.net.alphas self.now.net.nodes) (map now (map seen result.now)) }
-        // They tell of just the tasks of the last settle that came to terminals.
+        // They report exactly the tasks of the last settle that were for terminals.
         ensures told { All (TellsOfLasts self.now.net.nodes) result.now }
     {
         let parts = self.parts.as_ref();
         parts.world.lines()
     }
 
-    /// Feeds all changes, and does their tasks and all that comes of them: on the calling thread, or by several
-    /// workers, each of which takes a task from a pool and gives back its children. The work is shared where many tasks
-    /// are in flight and the last of them have many partners, and once where two or more but few are fed. It takes time
-    /// for the tasks that it does, for the lines that they were done on, and for the nodes that a change is fed to.
-    /// Where many were in flight it also looks at each line, and moves each where the work was shared. It may wait for
-    /// other threads, and it is not promised that their turns come. What it removed is kept until the next settle.
+    /// Feeds all changes, and performs their tasks and all that result: on the calling thread, or by several workers,
+    /// each of which takes a task from a pool and returns its children to it. The work is shared if many tasks are in
+    /// flight and the last of them have many partners, and once if at least two but few are fed.
+    ///
+    /// It takes time for the tasks that it performs, for the lines that they are performed on, and for the nodes that
+    /// a change is fed to. If many tasks were in flight it also looks at each line, and moves each if the work was
+    /// shared. It may wait for other threads, and it is not proved that its turn ever comes. Removed elements are
+    /// kept until the next settle.
     pub fn settle_freely<R: Threads + Wait + Sync>(
         self,
         rt: &R,
@@ -143,7 +145,7 @@ impl<G: Gate + Drop> FreeEngine<G> {
         ensures settled { IfOk result (λ s. IsSettled (found_over self.net.alphas self.net.nodes self.store.elements) (found_over s.matcher.net.alphas s.matcher.net.nodes s.matcher.store.elements) s.gone.items s.come.items) }
         ensures stands { IfOk result (λ s. (rules : List Rule) → NetOf self.net rules → NetOf s.matcher.net rules) }
         ensures net { IfOk result (λ s. s.matcher.net ≡ self.net) }
-        // What was removed stays kept: what was present or was added is held, and nothing else.
+        // Removed elements are still held: what was present or was added is held, and nothing else.
         ensures kept { IfOk result (λ s. HoldsAlso (record self.store { kept = [] }) s.matcher.store (added_by changes.now)) }
         // The lines with their entries are a bundle of the changes.
         ensures bundle { IfOk result (λ s. IsBundle (held_of s.matcher.store) s.matcher.net.alphas s.matcher.net.nodes (placed (held_of s.matcher.store) s.matcher.net.nodes (length s.matcher.world.lines.items)) self.store.elements changes.now (map seen s.matcher.world.lines.items)) }
@@ -210,7 +212,7 @@ impl<G: Gate + Drop> Matcher for FreeEngine<G> {
         ensures settled { IfOk result (λ s. IsSettled (found_over self.net.alphas self.net.nodes self.store.elements) (found_over s.matcher.net.alphas s.matcher.net.nodes s.matcher.store.elements) s.gone.items s.come.items) }
         ensures stands { IfOk result (λ s. (rules : List Rule) → NetOf self.net rules → NetOf s.matcher.net rules) }
         ensures net { IfOk result (λ s. s.matcher.net ≡ self.net) }
-        // What was removed stays kept: what was present or was added is held, and nothing else.
+        // Removed elements are still held: what was present or was added is held, and nothing else.
         ensures kept { IfOk result (λ s. HoldsAlso (record self.store { kept = [] }) s.matcher.store (added_by changes.now)) }
         // The lines with their entries are a bundle of the changes.
         ensures bundle { IfOk result (λ s. IsBundle (held_of s.matcher.store) s.matcher.net.alphas s.matcher.net.nodes (placed (held_of s.matcher.store) s.matcher.net.nodes (length s.matcher.world.lines.items)) self.store.elements changes.now (map seen s.matcher.world.lines.items)) }

@@ -1,4 +1,4 @@
-//! The engine of free workers: a matcher over a network whose tasks are done by several threads in any order.
+//! The engine of free workers: a matcher over a network whose tasks are performed by several threads in any order.
 #![tactic(auto)]
 
 mod cells;

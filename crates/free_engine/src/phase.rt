@@ -1,4 +1,4 @@
-//! What the workers of a shared phase work over.
+//! The data that all workers of a shared phase use.
 ghost use Rattle.std.specs.Prelude.{◌<◌};
 ghost use Rattle.turn_table.specs.Turns.{first_values};
 ghost use Rattle.free_engine.specs.Turns.{IsSetUp};
@@ -12,8 +12,8 @@ use std::snapshot::Snapshot;
 use turn_table::Cells;
 use work_store::Store;
 
-/// What all workers of a shared phase work over: the cells, the network, the store, and how many lines and workers
-/// there are. Contracts alone see the tasks that the phase began with.
+/// The data that all workers of a shared phase use: the cells, the network, the store, and the numbers of lines and
+/// workers. Only contracts can see the tasks that the phase began with.
 #[derive(Clone, Copy)]
 pub(crate) struct Phase<'a> {
     pub(crate) alloc: Global,
@@ -23,8 +23,8 @@ pub(crate) struct Phase<'a> {
     pub(crate) first: &'a Snapshot<Vec<Task>>,
     pub(crate) lines: usize,
     pub(crate) workers: usize,
-    // The pool stands in cell 0, and line i in cell i + 1.
+    // The pool is in cell 0, and line i in cell i + 1.
     ghost set_up: { IsSetUp net.now store.now lines workers first.now.value.items (first_values cells.now) } by { set_up_prop net.now store.now lines workers first.now.value.items (first_values cells.now) },
-    // There is a line at least.
+    // There is at least one line.
     ghost some: { 0 < lines },
 }

@@ -1,4 +1,4 @@
-//! The engine of free workers: a phase, with help of a team that has a pool.
+//! The engine of free workers: a phase, with the help of a team that has a pool.
 ghost use Rattle.std.specs.Prelude.{◌≡◌, ◌≤◌, ◌^◌, All, IfOk, OnOk, [], length, map};
 ghost use Rattle.std.specs.Thread.{IsSync};
 ghost use Rattle.ops_base.specs.WorkingMemory.{Lawful, done, last_after};
@@ -26,15 +26,15 @@ use step_core::{Gathered, Parts, World, gather_worked};
 use team_phase::{Load, Sharing, run_phase as run_with_help};
 use work_store::Store;
 
-/// When it pays to share. A task that looks at fewer than 64 partners takes as long as a turn in the pool, and workers
-/// that share such tasks wait for each other.
+/// When it pays to share. A task that examines fewer than 64 partners takes as long as a turn in the pool, and
+/// workers that share such tasks wait for each other.
 pub(crate) const WORTH: Worth = Worth {
     alone: 4_000,
     in_hand: 4_000,
     of_a_task: 5,
 };
 
-/// Does all of the load, and all that comes of it, by a team. No task comes back.
+/// Performs all of the load, and all tasks that result, by a team. No task comes back.
 fn share_all<R: Threads + Wait + Sync, G: Gate>(
     rt: &R,
     alloc: Global,
@@ -53,7 +53,7 @@ fn share_all<R: Threads + Wait + Sync, G: Gate>(
     })
 }
 
-/// Does the phase of these changes, which the store has done. The lines begin it.
+/// Runs the phase of these changes, which the store has already done. At the start the lines begin the phase.
 fn run_phase<R: Threads + Wait + Sync, G: Gate>(
     rt: &R,
     alloc: Global,
@@ -83,8 +83,9 @@ fn run_phase<R: Threads + Wait + Sync, G: Gate>(
     run_with_help(&help, alloc, net, store, gate, world, sharing, changes)
 }
 
-/// Does the changes to the store, and their phase over lines that hold just the tokens over it. The lines then hold
-/// just the tokens over the store with the changes done, and their entries are a bundle of the changes.
+/// Does the changes to the store and runs their phase, starting from lines that hold exactly the tokens over the
+/// store. Afterwards the lines hold exactly the tokens over the store with the changes done, and their entries are a
+/// bundle of the changes.
 pub(crate) fn settle<R: Threads + Wait + Sync, G: Gate>(
     rt: &R,
     alloc: Global,

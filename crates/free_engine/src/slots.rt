@@ -1,5 +1,5 @@
-//! The cells of a shared phase: the pool in cell 0, and line i in cell i + 1, in one type, a tag and a pointer wide;
-//! and the lines taken out of them again.
+//! The cells of a shared phase: the pool in cell 0, and line i in cell i + 1, in one type that is a tag and a pointer
+//! wide. And the lines taken out of the cells again.
 ghost use Rattle.std.specs.Prelude.{◌≡◌, All, IfOk, length};
 ghost use Rattle.token_line.specs.Held.{TaskFits};
 ghost use Rattle.activation.specs.Acting.{IsCounted};
@@ -20,20 +20,20 @@ use token_line::{Entry, Line};
 use turn_table::Kept;
 use work_store::Store;
 
-/// What stands in a cell: the pool, or a line.
+/// The content of a cell: the pool, or a line.
 #[derive(Drop)]
 pub(crate) enum Slot {
     Pool(Box<PoolCell>),
     Line(Box<LineCell>),
 }
 
-/// An entry of either. No value of it is made.
+/// An entry of either. No value of this type is ever made.
 pub(crate) enum SlotEntry {
     OfPool(PoolEntry),
     OfLine(Entry),
 }
 
-/// What no turn changes. No value of it is made.
+/// What no turn changes. No value of this type is ever made.
 pub(crate) enum SlotName {
     PoolName {
         first: Snapshot<Vec<Task>>,
@@ -71,7 +71,7 @@ impl Kept for Slot {
     }
 }
 
-/// A pool of these tasks for this many workers.
+/// A slot with a pool of these tasks for this many workers.
 fn pool_slot(
     alloc: Global,
     net: &Net,
@@ -92,7 +92,7 @@ fn pool_slot(
     Ok(Slot::Pool(Box::new(alloc, cell)?))
 }
 
-/// One of this many lines. It moves the line.
+/// A slot with one of this many lines. It moves the line.
 fn line_slot(
     alloc: Global,
     net: &Net,
@@ -114,8 +114,8 @@ fn line_slot(
     Ok(Slot::Line(Box::new(alloc, cell)?))
 }
 
-/// The pool of the tasks in flight, and then the lines. It moves each line, and takes memory for each. Where memory
-/// runs out the lines are let go.
+/// The pool of the tasks in flight, followed by the lines. It moves each line, and takes memory for each. If memory
+/// runs out, the lines are dropped.
 pub(crate) fn open(
     alloc: Global,
     net: &Net,
@@ -138,7 +138,7 @@ pub(crate) fn open(
     Ok(rows)
 }
 
-/// The lines in the slots, in their order. It moves each, and lets the pool go.
+/// The lines in the slots, in their order. It moves each, and drops the pool.
 pub(crate) fn lines_of(alloc: Global, slots: Vec<Slot>) -> Result<Vec<Line>, OutOfMemory>
     ensures { IfOk result (λ v. v.items ≡ rows_in slots.items) }
 {

@@ -28,8 +28,8 @@ use work_store::Store;
 /// The cells, their first pass, and the passes of the workers.
 pub(crate) type Started = (Cells<Slot>, Pass<Slot>, Vec<Pass<Slot>>);
 
-/// Cells of a pool of the tasks in flight and of the lines, and a pass for each of this many workers. It moves each
-/// line, and takes memory for each line and each worker. Where memory runs out the lines are let go.
+/// Cells for a pool of the tasks in flight and for the lines, and a pass for each of this many workers. It moves each
+/// line, and takes memory for each line and each worker. If memory runs out, the lines are dropped.
 pub(crate) fn start(
     alloc: Global,
     net: &Net,
@@ -73,7 +73,7 @@ pub(crate) fn split_all(
     Ok(passes)
 }
 
-/// A worker at work. True where it did whole rounds until the pool was quiet.
+/// A worker at work. Returns true if it did whole rounds until the pool was quiet.
 pub(crate) fn work_with<R: Wait, G: Gate>(
     rt: &R,
     phase: &Phase<'_>,
@@ -88,8 +88,8 @@ pub(crate) fn work_with<R: Wait, G: Gate>(
     (pass, whole)
 }
 
-/// All workers at once, each with its pass in a thread of its own, and one of them on the calling thread. Where a
-/// thread can't be started, its work is done on the thread that wanted to start it. It waits for all of them.
+/// Runs all workers at once, each with its pass in a thread of its own, and one of them on the calling thread. If a
+/// thread can't be started, its work is done on the thread that tried to start it. It waits for all of them.
 pub(crate) fn work_all<R: Threads + Wait + Sync, G: Gate>(
     rt: &R,
     phase: &Phase<'_>,
@@ -112,7 +112,7 @@ pub(crate) fn work_all<R: Threads + Wait + Sync, G: Gate>(
     Ok(ended)
 }
 
-/// Joins all. True where each did whole rounds until the pool was quiet.
+/// Joins all. Returns true if each did whole rounds until the pool was quiet.
 pub(crate) fn join_all(
     cells: &Cells<Slot>,
     first: &mut Pass<Slot>,
@@ -127,7 +127,7 @@ pub(crate) fn join_all(
     ensures joined { IsTrue result → AllJoined lines (length ended.items) (knows first.new).joined }
     ensures saw { IsTrue result → 0 < length ended.items → SawQuiet tasks.now.value.items (knows first.new).seen }
 {
-    // Contracts alone look at these.
+    // Only contracts read these.
     let _tasks = tasks;
     let _lines = lines;
     let mut whole = true;
@@ -140,9 +140,9 @@ pub(crate) fn join_all(
     whole
 }
 
-/// The lines, once each of this many workers was joined, and each did whole rounds until the pool was quiet. Each phase
-/// that was on its way in the lines that were opened is on its way in these, and no task waits. It moves each line
-/// twice, and waits for nothing. Where memory runs out the lines are let go.
+/// The lines, once each of this many workers was joined and did whole rounds until the pool was quiet. Each phase
+/// that was in progress in the lines that were opened is in progress in these, and no task is waiting. It moves each
+/// line twice, and waits for nothing. If memory runs out, the lines are dropped.
 pub(crate) fn close(
     alloc: Global,
     net: &Net,
@@ -161,7 +161,7 @@ pub(crate) fn close(
     ensures counted { IfOk result (λ v. All (IsCounted net.now.nodes store.now) v.items) }
     ensures numbers { IfOk result (λ v. map (λ l. l.number) v.items ≡ map (λ l. l.number) opened.now.value.lines.items) }
 {
-    // Contracts alone look at these.
+    // Only contracts read these.
     let _net = net;
     let _store = store;
     let _opened = opened;
@@ -172,8 +172,8 @@ pub(crate) fn close(
     }
 }
 
-/// Does the tasks in flight, and all that comes of them, by this many workers. It starts a thread for each but one,
-/// moves each line twice, and waits for all workers. Where memory runs out at one of them the others end too.
+/// Performs the tasks in flight, and all that result, by this many workers. It starts a thread for each but one,
+/// moves each line twice, and waits for all workers. If memory runs out at one of them, the others stop too.
 pub(crate) fn share<R: Threads + Wait + Sync, G: Gate>(
     rt: &R,
     alloc: Global,

@@ -1,4 +1,4 @@
-//! What a worker does with the slot that it holds, and its turns.
+//! What a worker does with the slot that it holds, and the turns that it takes.
 ghost use Rattle.std.specs.Prelude.{◌≡◌, ◌<◌, List, [], ◌∷◌, ◌++◌, All, OnOk, OnErr, true, false, ℕ, ◌+◌, IsTrue};
 ghost use Rattle.task_pool.specs.declared.pool.PoolEntry.TheVariants.{Finish as FinishEntry, Stop as StopEntry};
 ghost use Rattle.task_pool.specs.Pools.{holds};
@@ -25,7 +25,7 @@ use token_line::place_of;
 use turn_table::Pass;
 use work_store::Store;
 
-/// A take of the pool in the slot, at the cost of `Pool::take`.
+/// `Pool::take` on the pool in the slot, at the same cost.
 pub(crate) fn take_in(slot: &mut Slot, worker: usize) -> Taken
     requires pool { IsPool slot.old }
     requires worker { worker < workers_in slot.old }
@@ -40,7 +40,7 @@ pub(crate) fn take_in(slot: &mut Slot, worker: usize) -> Taken
     }
 }
 
-/// A finish of the pool in the slot. Where memory runs out nothing has changed.
+/// `Pool::finish` on the pool in the slot. If memory runs out, nothing has changed.
 pub(crate) fn finish_in(
     slot: &mut Slot,
     alloc: Global,
@@ -64,7 +64,7 @@ pub(crate) fn finish_in(
     }
 }
 
-/// A stop of the pool in the slot. Takes no memory.
+/// `Pool::stop` on the pool in the slot. Takes no memory.
 pub(crate) fn stop_in(slot: &mut Slot, worker: usize)
     requires pool { IsPool slot.old }
     requires holds { holds worker (pool_list slot.old) ≡ true }
@@ -77,8 +77,8 @@ pub(crate) fn stop_in(slot: &mut Slot, worker: usize)
     }
 }
 
-/// An activation of a task with this code, on the line in the slot, at the cost of `activation::activate_coded`. Where
-/// memory runs out nothing has changed.
+/// Activates a task with this code on the line in the slot, at the cost of `activation::activate_coded`. If memory
+/// runs out, nothing has changed.
 pub(crate) fn activate_in(
     slot: &mut Slot,
     alloc: Global,
@@ -131,7 +131,8 @@ pub(crate) fn take_task<R: Wait>(
     }
 }
 
-/// Does a task on its line, after the gate, and answers whether there was memory. It waits for a turn of the line.
+/// Performs a task on its line, after calling the gate, and returns whether there was enough memory. It waits for a
+/// turn of the line.
 pub(crate) fn do_task<R: Wait, G: Gate>(
     rt: &R,
     phase: &Phase<'_>,
@@ -169,7 +170,8 @@ pub(crate) fn do_task<R: Wait, G: Gate>(
     }
 }
 
-/// Finishes the task that was taken last, and answers whether there was memory. It waits for a turn of the pool.
+/// Finishes the task that was taken last, and returns whether there was enough memory. It waits for a turn of the
+/// pool.
 pub(crate) fn finish_task<R: Wait>(
     rt: &R,
     phase: &Phase<'_>,
@@ -193,7 +195,7 @@ pub(crate) fn finish_task<R: Wait>(
     }
 }
 
-/// Tells the others that this worker has no memory. It waits for a turn of the pool.
+/// Records in the pool, for the other workers, that this worker is out of memory. It waits for a turn of the pool.
 pub(crate) fn stop<R: Wait>(
     rt: &R,
     phase: &Phase<'_>,
@@ -212,8 +214,8 @@ pub(crate) fn stop<R: Wait>(
     phase.cells.give(turn)
 }
 
-/// How a round of a worker ended: a task is done and finished; no task waits now; none ever will; or memory ran out,
-/// here or at another worker.
+/// How a round of a worker ended: a task was performed and finished; no task is waiting now; none ever will be; or
+/// memory ran out, here or at another worker.
 #[derive(Clone, Copy)]
 pub(crate) enum RoundEnd {
     Done,

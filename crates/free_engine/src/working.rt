@@ -14,8 +14,8 @@ use std::sync::Wait;
 use task_pool::Taken;
 use turn_table::Pass;
 
-/// One round: a take, the line's entry, a finish. It claims three cells where there is a task, and one where there is
-/// none.
+/// One round: take a task, add the line's entry, finish the task. It claims three cells if there is a task, and one
+/// if there is none.
 fn do_round<R: Wait, G: Gate>(
     rt: &R,
     phase: &Phase<'_>,
@@ -58,7 +58,8 @@ pub(crate) struct Ended {
     pub(crate) whole: bool,
 }
 
-/// Rounds until the pool is quiet, or memory runs out here or at another worker. Where no task waits it backs off.
+/// Does rounds until the pool is quiet, or until memory runs out here or at another worker. If no task is waiting, it
+/// backs off.
 pub(crate) fn work<R: Wait, G: Gate>(
     rt: &R,
     phase: &Phase<'_>,

@@ -1,3 +1,3 @@
--- Networks that stand behind others.
+-- Networks placed behind others.
 pub mod Behind
 pub mod Last

@@ -1,4 +1,4 @@
-//! Where the alphas of a network stand behind those of another one.
+//! The places of a network's alphas behind those of another network.
 ghost use Rattle.std.specs.Prelude.{◌≡◌, ◌++◌, IfNone, IfOk, IfSome, OnOk, [], Some, slice_get, Contains};
 ghost use Rattle.grow_net.specs.Behind.{AddsPlace, ArePlaces, HaveNoneInCommon};
 
@@ -8,7 +8,7 @@ use net_base::nodes::Alpha;
 use ops_base::memory::OutOfMemory;
 use std::alloc::Global;
 
-/// The number of this alpha, if it is there. It looks at the class of each, and at the tests of those of its class.
+/// The number of this alpha, if it is there. It compares the class of each, and the tests of those of the same class.
 fn find(alphas: &[Alpha], alpha: &Alpha) -> Option<usize>
     ensures found { IfSome result (λ n. slice_get alphas.now n ≡ Some alpha.now) }
     ensures none { IfNone result (Contains alphas.now alpha.now → ⊥) }
@@ -21,7 +21,7 @@ fn find(alphas: &[Alpha], alpha: &Alpha) -> Option<usize>
     None
 }
 
-/// Adds an alpha behind those that are known and those that came behind them.
+/// Adds an alpha behind those that are known and those that were already added.
 fn add(
     alloc: Global,
     known: &[Alpha],
@@ -37,7 +37,7 @@ fn add(
     Ok(place)
 }
 
-/// The place of an alpha among those that are known, or else behind them.
+/// The place of an alpha among those that are known, or otherwise behind them.
 fn place_of(
     alloc: Global,
     known: &[Alpha],
@@ -52,8 +52,8 @@ fn place_of(
     }
 }
 
-/// The places of the alphas of a network. Those that are not known come behind the ones that are, in their order. For
-/// each it looks at the classes of all that are known.
+/// The places of the alphas of a network. Those that are not known are added behind those that are, in order. For
+/// each alpha it compares the classes of all that are known.
 pub(crate) fn places_of(
     alloc: Global,
     known: &[Alpha],

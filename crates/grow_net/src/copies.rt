@@ -1,4 +1,4 @@
-//! Copies of alphas, each equal to what it was made of.
+//! Copies of alphas, each equal to its original.
 ghost use Rattle.std.specs.Prelude.{◌≡◌, IfOk};
 
 use net_base::nodes::Alpha;

@@ -1,4 +1,4 @@
-//! The network of a program's last production alone.
+//! The network of a program's last production only.
 ghost use Rattle.std.specs.Prelude.{◌≡◌, ◌≤◌, ◌-◌, ◌∷◌, IfOk, List, Some, [], length, slice_get};
 ghost use Rattle.ops_base.specs.declared.rules.Rule.{Rule};
 ghost use Rattle.net_base.specs.Network.{NetOf};
@@ -22,8 +22,8 @@ fn no_program(alloc: Global) -> Program {
     )
 }
 
-/// The network of the last production. Meanwhile the program has that one alone, so nothing of it is copied; then it is
-/// as before, also where memory runs out. It costs the compilation of one production.
+/// The network of the last production. During the call, the program contains only that production, so nothing of it
+/// is copied; afterwards it is as before, even if memory runs out. It costs the compilation of one production.
 pub(crate) fn net_of_last(alloc: Global, program: &mut Program) -> Result<Net, OutOfMemory>
     requires { 1 ≤ length program.old.rules }
     ensures program { HasSameParts program.old program.new }

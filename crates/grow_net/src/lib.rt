@@ -1,4 +1,4 @@
-//! What a network lacks of productions that are added to it: a chain of nodes of their own, behind all of its nodes.
+//! What a network lacks for productions that are added to it: a chain of nodes of their own, behind all of its nodes.
 #![tactic(auto)]
 
 ghost use Rattle.std.specs.Prelude.{◌≡◌, ◌++◌, ◌+◌, ◌<◌, ◌≤◌, ◌^◌, ◌-◌, IfOk, length};
@@ -23,7 +23,7 @@ use ops_base::memory::OutOfMemory;
 use ops_base::programs::Program;
 use std::alloc::Global;
 
-/// The alphas and nodes that stand behind those of a network.
+/// The alphas and nodes that come behind those of a network.
 #[derive(Drop)]
 pub struct Growth {
     pub alphas: Vec<Alpha>,
@@ -38,12 +38,12 @@ fn count_of(own: &[Node], others: &[Node]) -> usize
     own.len() + others.len()
 }
 
-/// What a network, of so many productions, lacks of the productions of another one: the alphas that it has not, and the
-/// nodes of the other network, under the numbers that they have behind all of its own. What it has stays as it is: no
-/// node of it gets a child, and no alpha of it is there twice.
+/// What a network of `rules` productions lacks for the productions of another network: the alphas that it does not
+/// have, and the nodes of the other network, renumbered to follow all of its own. What it has stays unchanged: no
+/// node of it gets a child, and no alpha is duplicated.
 ///
-/// It copies the other network, and looks for each alpha of that one at the class of each alpha of the network, and at
-/// the tests of those of one class.
+/// It copies the other network. For each alpha of that network it compares the class of each alpha of this one, and
+/// the tests of those of the same class.
 pub fn growth_of(alloc: Global, net: &Net, rules: usize, added: &Net) -> Result<Growth, OutOfMemory>
     requires below { HasRulesBelow net.now.nodes rules }
     requires room { HasRulesBelow added.now.nodes (2 ^ 64 - rules) }
@@ -66,7 +66,7 @@ pub fn growth_of(alloc: Global, net: &Net, rules: usize, added: &Net) -> Result<
     Ok(Growth { alphas, nodes })
 }
 
-/// How many productions stand before the last one.
+/// How many productions come before the last one.
 fn rules_before(program: &Program) -> usize
     requires { 1 ≤ length program.now.rules }
     ensures count { result ≡ length program.now.rules - 1 }
@@ -75,7 +75,7 @@ fn rules_before(program: &Program) -> usize
     program.rules.len() - 1
 }
 
-/// What the network of the productions before the last one lacks of the last one. The program is as before, also where
+/// What the network of the productions before the last one lacks for the last one. The program is as before, even if
 /// memory runs out. It costs the compilation of one production, and what `growth_of` costs.
 pub fn growth_for_last(
     alloc: Global,

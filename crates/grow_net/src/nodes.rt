@@ -1,4 +1,4 @@
-//! The nodes of a network under the numbers that they have behind those of another one.
+//! The nodes of a network, renumbered to follow those of another network.
 ghost use Rattle.std.specs.Prelude.{◌≡◌, ◌+◌, ◌<◌, ◌^◌, All, IfOk, map};
 ghost use Rattle.grow_net.specs.Behind.{HasRoom, alpha_behind, kind_behind, kind_has_room, node_behind};
 
@@ -7,7 +7,7 @@ use ops_base::list::Listed;
 use ops_base::memory::OutOfMemory;
 use std::alloc::Global;
 
-/// How many nodes and productions stand before those of a network.
+/// How many nodes and productions come before those of a network.
 #[derive(Clone, Copy)]
 pub(crate) struct Before {
     pub(crate) nodes: usize,
@@ -88,7 +88,7 @@ fn node_behind(
     })
 }
 
-/// The nodes of a network, as they stand behind others.
+/// The nodes of a network, renumbered to follow others.
 pub(crate) fn nodes_behind(
     alloc: Global,
     before: Before,

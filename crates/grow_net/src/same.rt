@@ -10,7 +10,7 @@ trait Same {
         ensures { IsTrue result ↔ (self.now ≡ other.now) };
 }
 
-/// Looks at one item after another up to the first two that differ.
+/// Compares two lists item by item, up to the first two items that differ.
 fn same_items<T: Same>(a: &[T], b: &[T]) -> bool
     ensures { IsTrue result ↔ (a.now ≡ b.now) }
 {
@@ -57,7 +57,8 @@ impl Same for Test {
     }
 }
 
-/// Whether two alphas have one class and the same tests in one order. It looks at the tests where the classes are one.
+/// Whether two alphas have the same class and the same tests in the same order. It compares the tests only if the
+/// classes are the same.
 pub(crate) fn is_same(a: &Alpha, b: &Alpha) -> bool
     ensures { IsTrue result ↔ (a.now ≡ b.now) }
 {

@@ -1,16 +1,16 @@
--- What the loads of files come to.
+-- The results of loading files.
 use Rattle.std.specs.Prelude.{◌≡◌, ℕ, ◌+◌, ◌<◌, ◌≤◌, List, [], ◌∷◌, ◌++◌, ◌-◌, length, take, slice_index_or, Bool, true, false, Option, Some, None, Result, Ok, Err, ◌⊎◌}
 use Rattle.ops_base.specs.Valid.{longest_list}
 use Rattle.joined_files.specs.Files.{Gathered, Unread, Overlong, text_of}
 use Rattle.joined_files.specs.declared.files.FilesFault.{FilesFault}
 use Rattle.joined_files.specs.declared.files.FilesFault.TheVariants as fault
 
--- this may be the content of a file of which this is known
+-- this may be the content of a file, given what is known of it
 abbrev pub IsTold : Option (Option (List ℕ)) → Option (List ℕ) → Type 0
 IsTold None content = Unit {0}
 IsTold (Some known) content = known ≡ content
 
--- this is the whole text, where it fits
+-- this is the whole text, if it fits
 abbrev pub Fits : Bool → List ℕ → List ℕ → Type 0
 Fits true all new = (new ≡ all) × (length all ≤ longest_list)
 Fits false all new = longest_list < length all
@@ -22,17 +22,17 @@ Adds (Err (fault.Unread of)) told name old new = of.now ≡ name
 Adds (Err (fault.TooLong of)) told name old new = (bytes : List ℕ) × IsTold told (Some bytes) × (longest_list < length (old ++ text_of bytes)) × (of.now ≡ name)
 Adds (Err fault.OutOfMemory) told name old new = Unit {0}
 
--- The count of failures rises exactly where a file can't be read.
+-- The count of failures rises exactly if a file can't be read.
 abbrev pub CountsUnread : {T : Type 0} → Result T FilesFault → ℕ → ℕ → Type 0
 CountsUnread (Err (fault.Unread of)) before now = now ≡ before + 1
 CountsUnread r before now = now ≡ before
 
--- The name was asked for; where memory ran out it may be.
+-- The name was asked for, or may have been if memory ran out.
 abbrev pub AsksFor : {T : Type 0} → Result T FilesFault → List ℕ → List (List ℕ) → List (List ℕ) → Type 0
 AsksFor (Err fault.OutOfMemory) name old new = (new ≡ old) ⊎ (new ≡ old ++ name ∷ [])
 AsksFor r name old new = new ≡ old ++ name ∷ []
 
--- The files are no text for this reason.
+-- The files do not make up a text, for this reason.
 abbrev pub ComesTo : FilesFault → Gathered → Type 0
 ComesTo (fault.Unread of) g = g ≡ Unread of.now
 ComesTo (fault.TooLong of) g = g ≡ Overlong of.now
@@ -47,7 +47,7 @@ abbrev pub IsOfLast : FilesFault → List (List ℕ) → Type 0
 IsOfLast (fault.Unread of) names = of.now ≡ last_of names
 IsOfLast f names = Unit {0}
 
--- The first of these files were asked for, in their order, each once; all of them, where that is so.
+-- The first of these files were asked for, in order, each once; if `all` is true, all of them.
 pub record AskedFor (all : Bool) (files old new : List (List ℕ)) : Type 0 where
   pub loads : ℕ
   pub within : loads ≤ length files

@@ -1,4 +1,4 @@
--- Each file of a joined text has a range of it, which its part tells.
+-- Each file of a joined text has a range of it, which is given by its part.
 use Rattle.std.specs.Prelude.{◌≡◌, ℕ, ◌+◌, ◌<◌, ◌≤◌, List, [], ◌∷◌, ◌++◌, length, drop, slice_get, true, Option, Some}
 use Rattle.joined_files.specs.declared.parts.Part.{Part}
 use Rattle.joined_files.specs.Files.{ends_in_line, text_of, gathered_all, Joined}
@@ -9,8 +9,9 @@ abbrev pub next_place : List ℕ → List Part → ℕ
 next_place text [] = length text
 next_place text (part ∷ parts) = part.first
 
--- The part with this number is that of the file with this number, whose bytes these are: it begins at their text, and
--- the next one where that text ends. What stands before is empty or ends in LF. The places of the range are in the part.
+-- The part with this number is that of the file with this number, which has these bytes: the part begins where their
+-- text begins, and the next part begins where that text ends. The text before it is empty or ends in LF. The places
+-- of the range belong to the part.
 pub record IsOfFile (text : List ℕ) (parts : List Part) (number : ℕ) (bytes : List ℕ) : Type 0 where
   pub before : List ℕ
   pub after : List ℕ

@@ -1,4 +1,4 @@
-//! The files of a text, joined.
+//! The files that make up a text, joined.
 ghost use Rattle.std.specs.Prelude.{◌≡◌, ◌^◌, ◌<◌, ◌≤◌, ◌-◌, ◌++◌, ℕ, List, [], length, take, drop, ◌∷◌, vec_len, IfOk, IfErr, OnOk, is_ok};
 ghost use Rattle.ops_base.specs.Valid.{longest_list};
 ghost use Rattle.ops_jobs.specs.Words.{word_bytes};
@@ -14,18 +14,18 @@ use std::alloc::Global;
 /// How many bytes a text may have.
 const LONGEST_TEXT: usize = 16_777_216;
 
-/// Why files are no text.
+/// Why files do not make up a text.
 #[derive(Clone, Copy)]
 pub enum FilesFault<'n> {
     /// The file of this name can't be read.
     Unread(&'n str),
-    /// With the file of this name the text is longer than a text may be.
+    /// With the file of this name, the text is longer than allowed.
     TooLong(&'n str),
     /// Memory ran out.
     OutOfMemory,
 }
 
-/// The text of files, and their parts in it.
+/// The text of files, and the parts of it that belong to each file.
 #[derive(Drop)]
 pub struct JoinedText {
     pub text: Vec<u8>,
@@ -41,7 +41,7 @@ fn ends_in_line(bytes: &[u8]) -> bool
     }
 }
 
-/// Adds an LF where what stands from this place on lacks it, and answers whether that fits.
+/// Adds an LF if the text from this byte on does not end in one, and returns whether that fits.
 fn end_line(text: &mut Vec<u8>, from: usize) -> Result<bool, OutOfMemory>
     requires from { from ≤ vec_len text.old }
     requires fits { vec_len text.old ≤ longest_list }
@@ -57,7 +57,7 @@ fn end_line(text: &mut Vec<u8>, from: usize) -> Result<bool, OutOfMemory>
     Ok(true)
 }
 
-/// Loads a file after a text, with an LF where its last line lacks it. It asks the shelf once, and takes memory in
+/// Appends a file to a text, with an LF if its last line lacks one. It asks the shelf once, and takes memory in
 /// proportion to what is added.
 fn add_file<'n, H: Shelf>(
     name: &'n str,
@@ -85,7 +85,7 @@ fn add_file<'n, H: Shelf>(
     }
 }
 
-/// Adds a part that begins at this place.
+/// Adds a part that begins at this byte.
 fn push_part(parts: &mut Vec<Part>, first: usize) -> Result<(), OutOfMemory>
     ensures { OnOk result (parts.new.items ≡ parts.old.items ++ record { file = length parts.old.items; first = first } ∷ []) }
 {
@@ -94,7 +94,7 @@ fn push_part(parts: &mut Vec<Part>, first: usize) -> Result<(), OutOfMemory>
     Ok(())
 }
 
-/// Loads the files of these names in their order, and asks the shelf no more once one can't be had.
+/// Loads the files of these names in order. Once a file can't be loaded, it does not ask the shelf again.
 pub fn load_files<'n, H: Shelf>(
     alloc: Global,
     names: &'n [String],

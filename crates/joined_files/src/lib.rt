@@ -1,4 +1,4 @@
-//! The files of a text, joined in their order, and in which file each place of that text stands.
+//! The files of a text, joined in order, and the file that each place of that text belongs to.
 #![tactic(auto)]
 
 mod files;

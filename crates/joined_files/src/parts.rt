@@ -1,15 +1,15 @@
-//! The parts that files have in their joined text.
+//! The parts of a joined text that belong to its files.
 ghost use Rattle.std.specs.Prelude.{◌≡◌, ◌≤◌};
 ghost use Rattle.joined_files.specs.Parts.{part_at};
 
-/// The number of a file among the names, and the place at which its text begins.
+/// The index of a file among the names, and the byte at which its text begins.
 #[derive(Clone, Copy, Debug, PartialEq, Eq)]
 pub struct Part {
     pub file: usize,
     pub first: usize,
 }
 
-/// The part in which a place stands. Takes time in proportion to the number of parts.
+/// The part that a place belongs to. Takes time in proportion to the number of parts.
 pub fn part_at(parts: &[Part], at: usize) -> Part
     ensures part { result ≡ part_at parts.now at }
     ensures before { result.first ≤ at }

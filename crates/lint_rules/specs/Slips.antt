@@ -1,4 +1,4 @@
--- The words of a text that are probably slips, by what stands before them.
+-- The words of a text that are probably slips, judged by what comes before them.
 use Rattle.std.specs.Prelude.{ℕ, ◌+◌, ◌-◌, List, [], ◌∷◌, ◌++◌, codes, bytes_eq, Bool, true, false, not, ◌==◌, ◌&&◌, nat_lt, if◌then◌else◌, Option, Some, None}
 use Rattle.ops_tokens.specs.declared.token.Token.{Token}
 use Rattle.ops_tokens.specs.declared.token.TokenKind.{TokenKind}
@@ -13,7 +13,7 @@ use Rattle.lint_rules.specs.declared.walk.Before.TheVariants as before
 use Rattle.lint_rules.specs.declared.walk.Context.{Context}
 use Rattle.lint_rules.specs.Spelled.{is_clips_variable, is_clips_test, is_joined, is_joined_variable, is_string}
 
--- ---- what stands before a word
+-- ---- the context of a word
 
 abbrev pub at_start : Context
 at_start = record { depth = 0; conditions = false; write = 0; choice = false; before = before.Other }
@@ -22,7 +22,7 @@ abbrev pub is_literal : Before → Bool
 is_literal before.Literal = true
 is_literal _ = false
 
--- What stands right before it is no bracket, no `//` and no `p`.
+-- Neither a bracket nor `//` nor `p` comes right before it.
 abbrev pub plain : Context → Context
 plain c = record c { before = before.Other }
 
@@ -39,9 +39,9 @@ after_right c =
       before = before.Other;
     }
 
--- `//` makes a literal of the word after it. An operator that is such a literal has no other meaning, but >> always
--- ends a choice, in which `//` and `-->` are values. A choice begins among conditions alone: elsewhere `<<` is a
--- symbol.
+-- `//` makes a literal of the word after it. An operator that is such a literal has no other meaning, except that >>
+-- always ends a choice, in which `//` and `-->` are values. A choice can begin only among conditions: elsewhere `<<`
+-- is a symbol.
 abbrev pub after_operator : Context → List ℕ → Context
 after_operator c s =
     if bytes_eq s (codes "//") then record c { before = before.Literal }
@@ -51,8 +51,8 @@ after_operator c s =
     else if bytes_eq s (codes "-->") then record c { conditions = c.conditions && c.choice; before = before.Other }
     else plain c
 
--- The first word of a form says that conditions follow its name, and the first word after a bracket outside conditions
--- that values are written: among conditions `write` is the name of a class.
+-- The first word of a form determines whether conditions follow its name, and the first word after a bracket outside
+-- conditions determines whether values are written: among conditions, `write` is the name of a class.
 abbrev pub after_head : Context → List ℕ → Context
 after_head c s =
     if bytes_eq s (codes "p") && (c.depth == 1) then record c { conditions = true; before = before.Production }
@@ -63,7 +63,7 @@ abbrev pub after_symbol : Before → Context → List ℕ → Context
 after_symbol before.Bracket c s = after_head c s
 after_symbol _ c s = plain c
 
--- after a token of this kind and spelling
+-- the context after a token of this kind and spelling
 abbrev pub after : TokenKind → Context → List ℕ → Context
 after kind.Left c s = after_left c
 after kind.Right c s = after_right c
@@ -73,8 +73,8 @@ after _ c s = plain c
 
 -- ---- which words are reported
 
--- a symbol: as a variable of CLIPS and a string anywhere, as a test in conditions alone, and `crlf` among the values
--- of a `write`
+-- a symbol: reported as a variable of CLIPS or a string anywhere, as a test only in conditions, and as `crlf` only
+-- among the values of a `write`
 abbrev pub slip_of_symbol : Context → List ℕ → Option Slip
 slip_of_symbol c s =
     if is_clips_variable s then Some slip.ClipsVariable

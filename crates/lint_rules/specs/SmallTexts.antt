@@ -9,7 +9,7 @@ use Rattle.lint_rules.specs.Slips.{slips_of}
 abbrev pub placed_slips : List ℕ → List (Slip × ℕ × ℕ)
 placed_slips text = map (λ w. (w.slip, line_of text w.first, column_of text w.first)) (slips_of text)
 
--- the text has this slip alone, at this line and column
+-- the text has exactly this slip, at this line and column
 abbrev pub HasSlip : List ℕ → Slip → ℕ → ℕ → Type 0
 HasSlip text s line column = placed_slips text ≡ (s, line, column) ∷ []
 
@@ -27,8 +27,8 @@ SlipsAreFound =
     × HasSlip (codes "(p r (a) --> (write crlf))") slip.PlainCrlf 1 21
     × HasSlip (codes "(p r (a ^x << --> <y> >>) -->)") slip.ChosenVariable 1 19
 
--- a literal, the name of a production, a class with the name of an action, also behind a `-->` in a choice, a `<<` that
--- is written, and words as they are meant
+-- a literal, the name of a production, a class with the name of an action (including after a `-->` in a choice), a
+-- `<<` that is written, and words used as intended
 abbrev pub NoSlipIsFound : Type 0
 NoSlipIsFound =
     HasNone (codes "(p r (a ^x // ~red) -->)")

@@ -1,4 +1,4 @@
--- Which words look like a slip, by their bytes.
+-- Which words look like a slip, judged by their bytes.
 use Rattle.std.specs.Prelude.{ℕ, ◌-◌, List, length, drop, slice_index, Bool, not, ◌==◌, ◌&&◌, ◌||◌, nat_le, nat_lt}
 use Rattle.std.specs.List.{list_any}
 
@@ -34,7 +34,7 @@ abbrev pub is_joined : List ℕ → Bool
 is_joined word =
     (begins_with 60 word || begins_with 62 word || begins_with 61 word || ends_with 62 word) && list_any (λ b. is_letter b || is_digit b) word
 
--- a < stands after its first byte
+-- there is a < after its first byte
 abbrev pub is_joined_variable : List ℕ → Bool
 is_joined_variable word = list_any (λ b. b == 60) (drop 1 word)
 

@@ -1,4 +1,4 @@
--- What is printed of a slip, after its word.
+-- What is printed about a slip, after its word.
 use Rattle.std.specs.Prelude.{ℕ, List, codes}
 use Rattle.lint_rules.specs.declared.slips.Slip.{Slip}
 use Rattle.lint_rules.specs.declared.slips.Slip.TheVariants as slip

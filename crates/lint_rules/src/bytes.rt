@@ -1,4 +1,4 @@
-//! Which words look like a slip, by their bytes.
+//! Which words look like a slip, judged by their bytes.
 ghost use Rattle.std.specs.Prelude.{◌≡◌, ◌||◌, drop, bytes_eq};
 ghost use Rattle.std.specs.List.{list_any};
 ghost use Rattle.lint_rules.specs.Spelled.{is_letter, is_digit, begins_with, ends_with, begins_with_letter, is_marked, is_clips_variable, is_clips_test, is_joined, is_joined_variable, is_string};

@@ -1,4 +1,4 @@
-//! What is allowed in a program text and is nearly always a slip.
+//! Things that are allowed in a program text and are nearly always a slip.
 #![tactic(auto)]
 
 mod bytes;

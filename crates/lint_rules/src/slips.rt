@@ -9,19 +9,19 @@ pub enum Slip {
     ClipsVariable,
     /// It is a test of CLIPS: `~red`.
     ClipsTest,
-    /// A predicate and its value stand in it, or a half of a variable: `>0`, `<x`.
+    /// It contains a predicate and its value, or half of a variable: `>0`, `<x`.
     JoinedPredicate,
     /// It is one variable that looks like two words: `<=<x>`.
     JoinedVariable,
-    /// It looks like a variable and is a symbol, among the values of a choice.
+    /// It looks like a variable but is a symbol, among the values of a choice.
     ChosenVariable,
     /// It begins with a quote: `"like`.
     QuotedString,
-    /// It is `crlf` without its brackets, where values are written.
+    /// It is `crlf` without its brackets, among values that are written.
     PlainCrlf,
 }
 
-/// A word that is probably a slip, on the bytes of the text from `first` up to `past`.
+/// A word that is probably a slip, on the bytes of the text from `first` up to but not including `past`.
 #[derive(Clone, Copy, Debug, PartialEq, Eq)]
 pub struct Warning {
     pub slip: Slip,
@@ -29,7 +29,7 @@ pub struct Warning {
     pub past: usize,
 }
 
-/// What is printed of a slip, after its word.
+/// What is printed about a slip, after its word.
 pub fn slip_text(slip: Slip) -> &'static str
     ensures { result.now ≡ slip_text slip }
 {

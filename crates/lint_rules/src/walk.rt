@@ -12,7 +12,7 @@ use ops_base::memory::OutOfMemory;
 use ops_tokens::{Scanner, Token, TokenKind, spelling_of};
 use std::alloc::Global;
 
-/// What stands right before a word.
+/// What comes right before a word.
 #[derive(Clone, Copy, Debug, PartialEq, Eq)]
 pub(crate) enum Before {
     /// An opening bracket.
@@ -24,16 +24,16 @@ pub(crate) enum Before {
     Other,
 }
 
-/// What stands before a word.
+/// The context of a word.
 #[derive(Clone, Copy, Debug, PartialEq, Eq)]
 pub(crate) struct Context {
     /// How many brackets are open.
     depth: usize,
-    /// Whether it stands among the conditions of a production.
+    /// Whether it is among the conditions of a production.
     conditions: bool,
     /// How many brackets are open among the values of the `write` that is open, or 0.
     write: usize,
-    /// Whether it stands between `<<` and `>>`, among conditions.
+    /// Whether it is between `<<` and `>>`, among conditions.
     choice: bool,
     before: Before,
 }
@@ -199,7 +199,7 @@ fn slip_of(kind: TokenKind, context: Context, spelling: &[u8]) -> Option<Slip>
     }
 }
 
-/// The token that stands next, where one does.
+/// The next token, if there is one.
 fn token_from(scanner: &Scanner, text: &[u8], from: usize) -> Option<Token>
     requires { from ≤ length text.now }
     ensures { StandsBefore text.now from result }
@@ -210,7 +210,7 @@ fn token_from(scanner: &Scanner, text: &[u8], from: usize) -> Option<Token>
     }
 }
 
-/// Adds the word of a token, where it is a slip.
+/// Adds the word of a token, if it is a slip.
 fn note(found: &mut Vec<Warning>, token: Token, slip: Option<Slip>) -> Result<(), OutOfMemory>
     ensures { OnOk result (found.new.items ≡ found.old.items ++ warnings_of token slip) }
 {
@@ -224,9 +224,8 @@ fn note(found: &mut Vec<Warning>, token: Token, slip: Option<Slip>) -> Result<()
     Ok(())
 }
 
-/// The first words of a text that are probably slips, at most this many, in the order in which they stand. Only words
-/// before the first lexical fault are looked at. Takes time in proportion to the text, and memory in proportion to what
-/// it finds.
+/// The first words of a text that are probably slips, at most this many, in text order. Only words before the first
+/// lexical fault are examined. Takes time in proportion to the text, and memory in proportion to what it finds.
 pub fn word_slips(alloc: Global, text: &[u8], most: usize) -> Result<Vec<Warning>, OutOfMemory>
     ensures slips { IfOk result (λ found. found.items ≡ take most (slips_of text.now)) }
     ensures places { IfOk result (λ found. All (LiesWithin text.now) found.items) }

@@ -1,4 +1,4 @@
--- The exit status of each answer.
+-- The exit status of each result.
 use Rattle.std.specs.Prelude.{ℕ}
 use Rattle.lint_top.specs.declared.statuses.LintStatus.{LintStatus}
 use Rattle.lint_top.specs.declared.statuses.LintStatus.TheVariants as status

@@ -1,4 +1,4 @@
--- What is reported of files.
+-- What is reported about files.
 use Rattle.std.specs.Prelude.{ℕ, List, [], ◌∷◌, ◌++◌, length, min, codes, decimal, take, slice_range, slice_index_or, flat_map, nat_le, ◌&&◌, if◌then◌else◌, Result, Ok, Err}
 use Rattle.std.specs.Fmt.{signed_decimal}
 use Rattle.ops_base.specs.declared.values.Value.{Value}
@@ -32,11 +32,11 @@ pub record Reply : Type 0 where
   pub bytes : List ℕ
   pub status : LintStatus
 
--- NAME:LINE:COLUMN: and what is said
+-- NAME:LINE:COLUMN: followed by the message
 abbrev pub line_at : List ℕ → ℕ → ℕ → List ℕ → List ℕ
 line_at name line column what = name ++ codes ":" ++ decimal line ++ codes ":" ++ decimal column ++ codes ": " ++ what ++ 10 ∷ []
 
--- what is said of a place of the text, at its line and its column in its file
+-- a message about a place of the text, at its line and its column in its file
 abbrev pub line_in_part : List (List ℕ) → List ℕ → Part → ℕ → List ℕ → List ℕ
 line_in_part names text part at what = line_at (file_name names part) (line_in text part at) (column_in text part at) what
 
@@ -49,11 +49,11 @@ error_text f = codes "error: " ++ fault_text f
 abbrev pub error_line : List (List ℕ) → List ℕ → List Part → PlacedFault → List ℕ
 error_line names text parts f = line_for names text parts f.at (error_text f.fault)
 
--- the bytes of a word, none where it does not lie in the text
+-- the bytes of a word, none if it is not inside the text
 abbrev pub word_at : List ℕ → ℕ → ℕ → List ℕ
 word_at text first past = if nat_le first past && nat_le past (length text) then slice_range text first past else []
 
--- the word, and what is printed of its slip
+-- the word, and what is printed about its slip
 abbrev pub warning_text : List ℕ → Warning → List ℕ
 warning_text text w = codes "warning: " ++ word_at text w.first w.past ++ slip_text w.slip
 
@@ -112,7 +112,7 @@ reply_by names text parts (f ∷ fs) =
       status = status.Faulty;
     }
 
--- a line for each fault of the text, and then for each slip of a word; where there is no fault, a line for each warning
--- of a word or a production
+-- a line for each fault of the text, and then one for each slip of a word; if there is no fault, a line for each
+-- warning about a word or a production
 abbrev pub report : List (List ℕ) → List ℕ → List Part → Reply
 report names text parts = reply_by names text parts (faults_of MOST_ERRORS text)

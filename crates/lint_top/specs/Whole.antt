@@ -1,4 +1,4 @@
--- What the program answers to its words and files.
+-- The program's reply to its words and files.
 use Rattle.std.specs.Prelude.{ℕ, List, [], ◌∷◌, ◌++◌, length, codes, Bool, true, not, ◌==◌, ◌&&◌, if◌then◌else◌, Option}
 use Rattle.std.specs.List.{list_all}
 use Rattle.ops_base.specs.declared.endings.Fault.TheVariants as fault
@@ -39,8 +39,8 @@ answer_gathered names (Joined text parts) = report names text parts
 answer_gathered names (Unread name) = unread name
 answer_gathered names (Overlong name) = overlong name
 
--- The words are those of the command line, the contents those of the files that they name, in their order, none where
--- one is not there; `broken` tells which load failed, counted from 1, if one did.
+-- The words are those of the command line, and the contents are those of the files that they name, in order, none if
+-- a file does not exist. `broken` is the number of the load that failed, counted from 1, if one did.
 abbrev pub whole : List (List ℕ) → List (Option (List ℕ)) → Option ℕ → Reply
 whole words contents broken =
     if are_files words then answer_gathered words (gathered_all words (readable contents broken)) else usage

@@ -1,4 +1,4 @@
-//! That the places of files are those of the joined text. The law is the contract of a function that does nothing.
+//! Places in files agree with places in the joined text. The law is the contract of a function that does nothing.
 ghost use Rattle.lint_top.specs.Translated.{LinesAreLess, ColumnsAreSame};
 
 /// The line and the column of a place in its file.

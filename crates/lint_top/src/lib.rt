@@ -1,5 +1,5 @@
-//! What a text of files has of faults and of slips, a line for each: from the words of the command line to the bytes
-//! that are written and the status.
+//! The faults and slips of a text that consists of files, one line for each: from the words of the command line to
+//! the bytes that are written and the status.
 #![tactic(auto)]
 
 pub mod laws;

@@ -14,7 +14,7 @@ use ops_base::memory::OutOfMemory;
 use ops_forms::Place;
 use std::alloc::Global;
 
-/// The text of files: their names, the joined text, and the parts that the files have in it.
+/// The text of files: their names, the joined text, and the parts of it that belong to each file.
 #[derive(Clone, Copy)]
 pub(crate) struct Files<'a> {
     pub(crate) names: &'a [String],
@@ -32,7 +32,7 @@ fn file_name(names: &[String], part: Part) -> &[u8]
     }
 }
 
-/// Adds a line that says this of a place.
+/// Adds a line with this message about a place.
 pub(crate) fn add_line(
     lines: &mut Vec<u8>,
     name: &[u8],
@@ -69,7 +69,7 @@ pub(crate) fn add_line_for(
     add_line(lines, name, place.line, place.column, what)
 }
 
-/// What is said of a fault.
+/// The message about a fault.
 pub(crate) fn error_text(alloc: Global, fault: Fault) -> Result<Vec<u8>, OutOfMemory>
     ensures { IfOk result (λ v. v.items ≡ error_text fault) }
 {
@@ -78,7 +78,7 @@ pub(crate) fn error_text(alloc: Global, fault: Fault) -> Result<Vec<u8>, OutOfMe
     Ok(text)
 }
 
-/// The bytes of a word, none where it does not lie in the text.
+/// The bytes of a word, none if it is not inside the text.
 pub(crate) fn word_at(text: &[u8], first: usize, past: usize) -> &[u8]
     ensures { result.now ≡ word_at text.now first past }
 {

@@ -62,8 +62,8 @@ fn answer_files<H: Shelf, K: Sink>(
     }
 }
 
-/// Reports the faults and the slips of the text that files make together, in their order. The words name the files.
-/// Takes the time of reading the text for each fault that is found, and memory in proportion to the text.
+/// Reports the faults and the slips of the text that the files make up together, in their order. The words name the
+/// files. Takes the time of reading the text for each fault that is found, and memory in proportion to the text.
 pub fn lint_run<H: Shelf, K: Sink>(
     alloc: Global,
     words: &[String],

@@ -11,8 +11,8 @@ use std::alloc::Global;
 /// How many warnings are reported at most.
 pub const MOST_WARNINGS: usize = 100;
 
-/// A warning: of a word; of what a condition asks for in vain; of a production that has the conditions of an earlier
-/// one; or of a variable that is used nowhere.
+/// A warning: about a word; about something that a condition asks for in vain; about a production that has the same
+/// conditions as an earlier one; or about an unused variable.
 #[derive(Clone, Copy, Debug, PartialEq, Eq)]
 pub enum Remark {
     Word(Warning),
@@ -21,7 +21,7 @@ pub enum Remark {
     Lone(Named),
 }
 
-/// The byte at which it stands.
+/// The byte at which it is.
 pub(crate) fn at_of(remark: Remark) -> usize
     ensures { result ≡ at_of remark }
 {
@@ -33,7 +33,8 @@ pub(crate) fn at_of(remark: Remark) -> usize
     }
 }
 
-/// Adds those from a place of the list on that stand at this byte or before it, and returns the place after them.
+/// Adds the warnings from an index of the list on that are at this byte or before it, and returns the index after
+/// them.
 fn add_up_to(
     remarks: &mut Vec<Remark>,
     list: &[Remark],
@@ -57,7 +58,7 @@ fn add_up_to(
     Ok(next)
 }
 
-/// Two lists that are in order, as one that is.
+/// Merges two sorted lists into one sorted list.
 fn merge(alloc: Global, list: &[Remark], other: &[Remark]) -> Result<Vec<Remark>, OutOfMemory>
     ensures { IfOk result (λ v. v.items ≡ merged list.now other.now) }
 {
@@ -122,7 +123,7 @@ fn of_program(alloc: Global, program: &Program) -> Result<Vec<Remark>, OutOfMemo
     merge(alloc, &conditions, &lone)
 }
 
-/// The first warnings of a program, in the order of the text.
+/// The first warnings of a program, in text order.
 pub(crate) fn remarks_of(alloc: Global, program: &Program) -> Result<Vec<Remark>, OutOfMemory>
     ensures { IfOk result (λ v. v.items ≡ remarks program.now.text program.now.classes program.now.rules program.now.commands) }
 {

@@ -1,4 +1,4 @@
-//! What is reported of files.
+//! What is reported about files.
 ghost use Rattle.std.specs.Prelude.{◌≡◌, ◌++◌, ◌≤◌, length, take, All, flat_map, IfOk, OnOk};
 ghost use Rattle.ops_jobs.specs.Words.{word_bytes};
 ghost use Rattle.lint_rules.specs.Walks.{LiesWithin};
@@ -56,7 +56,7 @@ fn add_warnings(
     Ok(())
 }
 
-/// Gives a line for each fault, and then for each slip of a word.
+/// Returns a line for each fault, followed by one for each slip of a word.
 fn report_faults(
     alloc: Global,
     files: Files<'_>,
@@ -88,7 +88,7 @@ fn status_by(remarks: &[Remark]) -> LintStatus
     }
 }
 
-/// Gives a line for each of these warnings.
+/// Returns a line for each of these warnings.
 fn report_remarks(
     alloc: Global,
     files: Files<'_>,
@@ -106,7 +106,7 @@ fn report_remarks(
     Ok(Lines { bytes, status })
 }
 
-/// Gives a line for each warning of a text that is a program.
+/// Returns a line for each warning of a text that is a program.
 fn report_program(alloc: Global, files: Files<'_>) -> Result<Lines, OutOfMemory>
     ensures bytes { IfOk result (λ r. r.bytes.items ≡ (of_read (word_bytes files.entry.names.now) files.entry.text.now files.entry.parts.now (reads files.entry.text.now)).bytes) }
     ensures status { IfOk result (λ r. r.status ≡ (of_read (word_bytes files.entry.names.now) files.entry.text.now files.entry.parts.now (reads files.entry.text.now)).status) }
@@ -129,7 +129,7 @@ fn report_program(alloc: Global, files: Files<'_>) -> Result<Lines, OutOfMemory>
     }
 }
 
-/// Looks for the faults and the slips of a text, and gives a line for each.
+/// Looks for the faults and the slips of a text, and returns a line for each.
 pub(crate) fn report(alloc: Global, files: Files<'_>) -> Result<Lines, OutOfMemory>
     ensures bytes { IfOk result (λ r. r.bytes.items ≡ (report (word_bytes files.entry.names.now) files.entry.text.now files.entry.parts.now).bytes) }
     ensures status { IfOk result (λ r. r.status ≡ (report (word_bytes files.entry.names.now) files.entry.text.now files.entry.parts.now).status) }

@@ -1,4 +1,4 @@
-//! What is said of the warnings of a program.
+//! The messages about the warnings of a program.
 ghost use Rattle.std.specs.Prelude.{◌≡◌, ◌≤◌, ◌++◌, length, codes, decimal, IfOk, OnOk, slice_index_or};
 ghost use Rattle.ops_base.specs.Names.{spelling_of};
 ghost use Rattle.ops_base.specs.Valid.{class_of};
@@ -16,7 +16,7 @@ use ops_base::values::{NIL, Sym, Value};
 use program_slips::{Ask, Named, Twin, What};
 use std::alloc::Global;
 
-/// What a program calls its symbols and classes.
+/// The names that a program gives to its symbols and classes.
 #[derive(Clone, Copy)]
 pub(crate) struct Terms<'a> {
     pub(crate) names: &'a Names,
@@ -166,7 +166,7 @@ fn remark_text(
     }
 }
 
-/// Adds the line of a warning. One that stands past the text is said of its end.
+/// Adds the line of a warning. A warning beyond the end of the text is reported at the end.
 pub(crate) fn add_remark(
     alloc: Global,
     lines: &mut Vec<u8>,

@@ -16,7 +16,7 @@ use ops_base::memory::OutOfMemory;
 use ops_io::{Out, Sink, Stop};
 use std::alloc::Global;
 
-/// Writes these bytes, and answers the status.
+/// Writes these bytes, and returns the status.
 fn say<K: Sink>(
     alloc: Global,
     bytes: &[u8],
@@ -33,7 +33,7 @@ fn say<K: Sink>(
     Ok(status)
 }
 
-/// Answers words that name no files.
+/// Replies to words that name no files.
 pub(crate) fn say_usage<K: Sink>(alloc: Global, sink: &mut K) -> Result<LintStatus, Stop>
     requires faults { K.faults sink.old < 2 ^ 63 }
     ensures delivers { Delivers result usage (K.taken sink.old) (K.faults sink.old) (K.taken sink.new) (K.faults sink.new) }
@@ -41,7 +41,7 @@ pub(crate) fn say_usage<K: Sink>(alloc: Global, sink: &mut K) -> Result<LintStat
     say(alloc, b"usage: ops-lint FILE..\n", LintStatus::Usage, sink)
 }
 
-/// Answers the joined text of files.
+/// Replies to the joined text of files.
 pub(crate) fn say_report<K: Sink>(
     alloc: Global,
     names: &[String],
@@ -95,7 +95,7 @@ fn say_overlong<K: Sink>(alloc: Global, name: &str, sink: &mut K) -> Result<Lint
     say(alloc, &line, LintStatus::Faulty, sink)
 }
 
-/// Answers files that are no text.
+/// Replies to files that do not make up a text.
 pub(crate) fn say_why<K: Sink>(
     alloc: Global,
     why: FilesFault<'_>,

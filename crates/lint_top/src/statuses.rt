@@ -1,8 +1,8 @@
-//! What a call of the program answers.
+//! The results of a call of the program.
 ghost use Rattle.std.specs.Prelude.{◌≡◌};
 ghost use Rattle.lint_top.specs.Codes.{code_of};
 
-/// What was found, or why nothing was looked for.
+/// What was found, or why there was no search.
 #[derive(Clone, Copy, Debug, PartialEq, Eq)]
 pub enum LintStatus {
     /// Nothing was found.

@@ -1,4 +1,5 @@
-//! The lines of a page with fifteen slips, and that its mended page has none; and of a program with one slip of each kind.
+//! The lines of a page with fifteen slips, that its corrected page has none, and a program with one slip of each
+//! kind.
 
 use crate::lint::lint_run;
 use crate::statuses::LintStatus;
@@ -91,7 +92,7 @@ fn add_file(
     Ok(())
 }
 
-// what is said of the classes and a page
+// the output for the classes and a page
 fn said_of(alloc: Global, page: &[u8]) -> Result<(MemSink, LintStatus), Fail> {
     let mut files = Vec::new(alloc);
     add_file(alloc, &mut files, "classes", CLASSES)?;

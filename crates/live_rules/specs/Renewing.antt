@@ -1,4 +1,4 @@
--- What becomes of a state of the cycle where productions come and go.
+-- How a state of the cycle changes when productions come and go.
 use Rattle.std.specs.Prelude.{List}
 use Rattle.ops_base.specs.declared.rules.Rule.{Rule}
 use Rattle.ops_meaning.specs.Running.{Course}
@@ -6,7 +6,7 @@ use Rattle.conflict_index.specs.Indexed.{KeepsSpecificities}
 use Rattle.cycle.specs.States.{Held}
 use Rattle.live_rules.specs.Moves.{Places, Leads, insts_moved}
 
--- The state is one of older productions, from which these places lead to those in force.
+-- The state is that of older productions, from which these places lead to those in force.
 pub record IsFrom {M : Type 0} (stands_for : M → List Rule → Type 0) (places : Places) (rules : List Rule) (s : Held M) : Type 0 where
   pub old : List Rule
   pub leads : Leads places old rules

@@ -1,4 +1,4 @@
-//! The program in force, whose productions come and go, and the state of the cycle that follows it.
+//! The program in force, whose productions come and go, and the state of the cycle, which follows it.
 #![tactic(auto)]
 
 mod live;

@@ -1,4 +1,4 @@
-//! `Live`, which is the program in force.
+//! `Live`, the program in force.
 ghost use Rattle.std.specs.Prelude.{◌≡◌, ◌++◌, ◌∷◌, [], length, IsTrue, IfOk, OnOk, OnErr};
 ghost use Rattle.ops_base.specs.Valid.{rule_builds_from, rule_is_valid};
 ghost use Rattle.ops_meaning.specs.Running.{rule_named, without_named};
@@ -14,7 +14,7 @@ use ops_base::values::Sym;
 use std::alloc::Global;
 use std::mem;
 
-/// The program in force: its productions are those in force.
+/// The program in force: it has exactly the productions that are in force.
 #[derive(Drop)]
 pub struct Live {
     pub program: Program,
@@ -31,14 +31,14 @@ fn no_program(alloc: Global) -> Program {
     )
 }
 
-/// The number of the production of a name. Looks at one after the other.
+/// The number of the production with this name. Searches the productions one after the other.
 pub fn rule_named(rules: &[Rule], name: Sym) -> Option<usize>
     ensures { result ≡ rule_named rules.now name }
 {
     rules.iter().position(|rule| rule.name == name)
 }
 
-/// These without the one of this number, if there is one. Takes no memory. Goes over those after it.
+/// These items without the one with this number, if there is one. Allocates nothing. Moves the items after it.
 pub fn without_any<T: Drop>(items: Listed<T>, number: Option<usize>) -> Listed<T>
     ensures { result ≡ without_any number items }
 {
@@ -54,14 +54,14 @@ pub fn without_any<T: Drop>(items: Listed<T>, number: Option<usize>) -> Listed<T
 }
 
 impl Live {
-    /// Takes no memory.
+    /// Allocates nothing.
     pub fn new(alloc: Global, program: Program) -> Live
         ensures { result.program ≡ program }
     {
         Live { program, alloc }
     }
 
-    /// The commands, of which none is left. Takes no memory.
+    /// Takes the commands out of the program, so that none is left in it. Allocates nothing.
     pub fn take_commands(&mut self) -> Listed<Command>
         ensures commands { result ≡ self.old.program.commands }
         ensures left { IsWith self.old.program.rules [] self.old.program self.new.program }
@@ -77,7 +77,7 @@ impl Live {
         commands
     }
 
-    /// Takes the production of a name out, if there is one, and returns its number. Takes no memory. Goes over the
+    /// Removes the production with this name, if there is one, and returns its number. Allocates nothing. Scans the
     /// productions.
     pub fn excise(&mut self, name: Sym, moved: &mut Moved) -> Option<usize>
         ensures number { result ≡ rule_named self.old.program.rules name }
@@ -98,8 +98,8 @@ impl Live {
         number
     }
 
-    /// Adds a production after all others. One of its name is taken out, and its number is returned. If memory runs
-    /// out, nothing has changed. Goes over the productions.
+    /// Adds a production after all others. If there is one with the same name, it is removed, and its number is
+    /// returned. If memory runs out, nothing has changed. Scans the productions.
     pub fn add(&mut self, rule: Rule, moved: &mut Moved) -> Result<Option<usize>, OutOfMemory>
         requires valid { IsTrue (rule_is_valid self.old.program.classes (length self.old.program.text) rule) }
         requires builds { IsTrue (rule_builds_from (length self.old.program.templates) rule) }

@@ -8,7 +8,7 @@ use ops_base::programs::Program;
 use std::alloc::Global;
 use std::marker::Model;
 
-/// The numbers that productions have now, which had others when a matcher was made for them.
+/// The current numbers of productions that had other numbers when a matcher was made for them.
 #[derive(Drop)]
 pub struct Moved {
     places: Vec<Option<usize>>,
@@ -22,7 +22,7 @@ impl Model for Moved {
     ghost view = { λ m. m.places.items };
 }
 
-/// The number now of the production that had this one, once that with the number `gone` is taken out.
+/// The current number of the production that had this one, after the production with the number `gone` is removed.
 fn place_moved(gone: usize, place: Option<usize>) -> Option<usize>
     ensures { result ≡ option_and_then (moved gone) place }
 {
@@ -45,7 +45,7 @@ fn move_places(gone: usize, places: &mut [Option<usize>])
 }
 
 impl Moved {
-    /// Each production of the program has the number that it had.
+    /// Each production of the program has its old number.
     pub fn nothing(alloc: Global, program: &Program) -> Result<Moved, OutOfMemory>
         ensures { IfOk result (λ m. m ≡ unmoved (length program.now.rules)) }
     {
@@ -56,14 +56,14 @@ impl Moved {
         Ok(Moved { places })
     }
 
-    /// The number now of the production that had this one, none if it is gone. Takes no memory.
+    /// The current number of the production that had this one, or `None` if it is gone. Allocates nothing.
     pub fn place(&self, number: usize) -> Option<usize>
         ensures { result ≡ place_of self.now number }
     {
         self.places.get(number).copied().flatten()
     }
 
-    /// The production that has this number now, if it is one, is taken out. Goes over all.
+    /// Records that the production that now has this number, if there is one, is removed. Scans all productions.
     pub(crate) fn take_out_any(&mut self, number: Option<usize>)
         ensures { self.new ≡ places_moved_any number self.old }
     {

@@ -1,4 +1,4 @@
-//! A state of the cycle that follows the program in force.
+//! Makes the state of the cycle follow the program in force.
 ghost use Rattle.std.specs.Prelude.{◌≡◌, IfOk};
 ghost use Rattle.ops_base.specs.Feeding.{fed_again};
 ghost use Rattle.ops_base.specs.Names.{Spellings};
@@ -20,7 +20,7 @@ use ops_base::rules::Inst;
 use std::alloc::Global;
 use work_store::{Matcher, Settled, Store};
 
-/// The changes that make a working memory anew, with the last tag that was given, where a program has this many classes.
+/// The changes that rebuild a working memory and the last tag that was assigned, for a program with this many classes.
 /// Copies all elements.
 pub fn fed(
     alloc: Global,
@@ -57,7 +57,7 @@ fn inst_moved(inst: Inst, moved: &Moved) -> Option<Inst>
     Some(Inst { rule, tags })
 }
 
-/// Those of productions that are still there, under their new numbers.
+/// The instantiations of productions that are still in force, under their new numbers.
 fn insts_moved(alloc: Global, insts: Vec<Inst>, moved: &Moved) -> Result<Vec<Inst>, OutOfMemory>
     ensures { IfOk result (λ v. v.items ≡ insts_moved moved.now insts.items) }
 {
@@ -71,9 +71,9 @@ fn insts_moved(alloc: Global, insts: Vec<Inst>, moved: &Moved) -> Result<Vec<Ins
 }
 
 /// A state for the program in force, made from a state for an older one: a new matcher is fed all elements, and the
-/// instantiations of productions that stay keep their marks. It costs the compilation of the program and one phase in
-/// which all elements come, however many productions came and went. The old matcher is gone before the new one is made.
-/// If memory runs out, the state is gone.
+/// instantiations of productions that stay keep their marks. Its cost is that of compiling the program and of one phase
+/// in which all elements are added, however many productions came and went. The old matcher is dropped before the new
+/// one is made. If memory runs out, the state is lost.
 pub fn renew<B: Maker, H: Fn(B::M, &[Change]) -> Result<Settled<B::M>, OutOfMemory>>(
     alloc: Global,
     maker: &B,
@@ -100,7 +100,7 @@ pub fn renew<B: Maker, H: Fn(B::M, &[Change]) -> Result<Settled<B::M>, OutOfMemo
         come,
         gone: _,
     } = made_over(alloc, maker, hand, program, changes.as_slice())?;
-    // the store is looked at for what the matcher keeps true
+    // reads the store to get at the matcher's invariants
     let _store = matcher.store();
     let index = Index::with_marks(alloc, strategy, program, come.as_slice(), marks.as_slice())?;
     State::adopt(alloc, matcher, index, firings)

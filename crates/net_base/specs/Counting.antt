@@ -1,4 +1,4 @@
--- How large the network of rules is, as numbers that can be computed.
+-- The size of the network of rules, as numbers that can be computed.
 use mathlib.Core.Bool.{beq}
 use Rattle.std.specs.Prelude.{ℕ, Bool, false, not, ◌==◌, ◌&&◌, List, [], ◌∷◌, ◌++◌, length, filter, flat_map}
 use Rattle.std.specs.Cmp.Lexicographic.{pointwise}
@@ -20,7 +20,7 @@ use Rattle.net_base.specs.declared.counts.Counts.{Counts}
 use Rattle.net_base.specs.Normal.{alpha_tests}
 use Rattle.net_base.specs.Shape.{normal_form, is_negative, positives}
 
--- ---- what is the same
+-- ---- equality
 
 abbrev pub pred_number : Pred → ℕ
 pred_number Eq = 0
@@ -62,14 +62,14 @@ are_same_parts _ _ = false
 
 -- ---- paths
 
--- a path, given by what stands before its last part and by that one
+-- a path, given by the parts before its last part and by the last part
 abbrev pub Path : Type 0
 Path = List NormalPart × NormalPart
 
 abbrev pub are_same_paths : Path → Path → Bool
 are_same_paths p q = pointwise are_same_parts p.0 q.0 && are_same_parts p.1 q.1
 
--- the paths of members that come after these parts
+-- the paths of members of a group that comes after these parts
 abbrev pub member_paths : List NormalPart → List NormalCondition → List Path
 member_paths before [] = []
 member_paths before (c ∷ cs) = (before, One c) ∷ member_paths (before ++ One c ∷ []) cs
@@ -88,7 +88,7 @@ abbrev pub alpha_list : List NormalPart → NormalPart → List (ℕ × List Tes
 alpha_list before (One c) = (c.class, alpha_tests (positives before) c.tests) ∷ []
 alpha_list before (Group cs) = []
 
--- the class and the alpha tests of a path's last part, where that is a condition
+-- the class and the alpha tests of a path's last part, if that is a condition
 abbrev pub alpha_list_of : Path → List (ℕ × List Test)
 alpha_list_of p = alpha_list p.0 p.1
 

@@ -25,7 +25,7 @@ abbrev pub number_if : {X : Type 0} → (X → Bool) → Option X → ℕ → Li
 number_if test None i = []
 number_if test (Some x) i = if test x then i ∷ [] else []
 
--- the numbers below the bound of the items that pass, rising
+-- the numbers below the bound of the items that pass, in ascending order
 abbrev pub numbers_below : {X : Type 0} → (X → Bool) → List X → ℕ → List ℕ
 numbers_below test xs zero = []
 numbers_below test xs (suc i) = numbers_below test xs i ++ number_if test (slice_get xs i) i
@@ -39,13 +39,13 @@ takes_from alpha x = takes_elements x.kind && (x.alpha == alpha)
 abbrev pub takers_of : List Node → ℕ → List ℕ
 takers_of nodes alpha = numbers_below (takes_from alpha) nodes (length nodes)
 
--- ---- what an alpha asks for
+-- ---- what an alpha requires
 
 abbrev pub constant_if : Pred → Operand → ℕ → Option Constant
 constant_if Eq (operand.Constant v) f = Some (record { field = f; value = v })
 constant_if _ _ f = None
 
--- the constant that a test wants in a field
+-- the constant that a test requires in a field
 abbrev pub constant_of : Test → Option Constant
 constant_of t = if t.binds then None else constant_if t.pred t.operand t.field
 
@@ -53,17 +53,17 @@ abbrev pub constant_or : Option Constant → Option Constant → Option Constant
 constant_or None o = o
 constant_or (Some c) o = Some c
 
--- the first of the constants that tests want
+-- the first of the constants that tests require
 abbrev pub first_constant : List Test → Option Constant
 first_constant [] = None
 first_constant (t ∷ ts) = constant_or (constant_of t) (first_constant ts)
 
--- the constant, where there is one, stands in the element's field
+-- the element's field contains the constant, if there is one
 abbrev pub has_constant : Element → Option Constant → Bool
 has_constant e None = true
 has_constant e (Some c) = are_same (field_of e c.field) c.value
 
--- the element is of the alpha's class, and has the constant that the alpha wants first
+-- the element is of the alpha's class, and has the constant that the alpha requires first
 abbrev pub can_pass : Alpha → Element → Bool
 can_pass a e = (e.class == a.class) && has_constant e (first_constant a.tests)
 
@@ -90,7 +90,8 @@ found_by index class (Some c) = list_at same_key index.keyed (record { class = c
 abbrev pub has_field : AlphaIndex → ℕ → ℕ → Bool
 has_field index class f = list_any (λ g. g == f) (row_at index.fields class)
 
--- The alphas below the bound are found by their keys. The fields of their constants are known, each once.
+-- The alphas with numbers below the bound are found by their keys. The fields of their constants are known, each
+-- once.
 pub record IsIndexBelow (alphas : List Alpha) (bound : ℕ) (index : AlphaIndex) : Type 0 where
   pub found : (k : Key) → found_by index k.class k.constant ≡ numbers_below (has_key k) alphas bound
   pub fields : (n : ℕ) (a : Alpha) (c : Constant) → n < bound → slice_get alphas n ≡ Some a → first_constant a.tests ≡ Some c → has_field index a.class c.field ≡ true
@@ -99,7 +100,7 @@ pub record IsIndexBelow (alphas : List Alpha) (bound : ℕ) (index : AlphaIndex)
 abbrev pub IsIndex : List Alpha → AlphaIndex → Type 0
 IsIndex alphas index = IsIndexBelow alphas (length alphas) index
 
--- the field is known in the class, and all others that were known are so; each is there once if each was
+-- the field is known in the class, and so are all others that were known; each is there once if each was
 pub record HasField (old new : AlphaIndex) (class f : ℕ) : Type 0 where
   pub field : has_field new class f ≡ true
   pub stay : (k g : ℕ) → has_field old k g ≡ true → has_field new k g ≡ true
@@ -107,16 +108,16 @@ pub record HasField (old new : AlphaIndex) (class f : ℕ) : Type 0 where
   pub plain : new.plain ≡ old.plain
   pub keyed : new.keyed ≡ old.keyed
 
--- number n is one alpha more
+-- number n is one more alpha
 pub record AddsAlpha (old new : AlphaIndex) (n : ℕ) (a : Alpha) : Type 0 where
   pub found : (k : Key) → found_by new k.class k.constant ≡ found_by old k.class k.constant ++ (if has_key k a then n ∷ [] else [])
   pub stay : (k g : ℕ) → has_field old k g ≡ true → has_field new k g ≡ true
   pub field : (c : Constant) → first_constant a.tests ≡ Some c → has_field new a.class c.field ≡ true
   pub once : ((k : ℕ) → AllPairs (λ f g. f ≢ g) (row_at old.fields k)) → (k : ℕ) → AllPairs (λ f g. f ≢ g) (row_at new.fields k)
 
--- ---- what an element finds
+-- ---- what is found for an element
 
--- what is found by the constant that an element has in a field
+-- what is found by the constant in one field of an element
 abbrev pub found_at : AlphaIndex → Element → ℕ → List ℕ
 found_at index e f = found_by index e.class (Some (record { field = f; value = field_of e f }))
 

@@ -1,4 +1,4 @@
--- What alphas are looked up by.
+-- The keys by which alphas are looked up.
 use Rattle.std.specs.Prelude.{Bool}
 use Rattle.net_base.specs.declared.keys.Key.{Key}
 use Rattle.net_base.specs.contracts.keys.KeyPartialEq.TheImpl as key

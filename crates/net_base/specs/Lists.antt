@@ -13,6 +13,6 @@ module _ {K : Type 0} (eq : K → K → Bool) where
   abbrev pub list_at : Lists K → K → List ℕ
   list_at l key = items_of (get eq l.lists key)
 
-  -- the item stands at the end of the list under this key, and all else is as before
+  -- the item is at the end of the list under this key, and everything else is as before
   abbrev pub AddsItem : Lists K → Lists K → K → ℕ → Type 0
   AddsItem old new key item = (q : K) → list_at new q ≡ list_at old q ++ (if eq key q then item ∷ [] else [])

@@ -1,4 +1,4 @@
--- Conditions in normal form, and their tests of one element alone and of several.
+-- Conditions in normal form, and their tests of one element and of several.
 use Rattle.std.specs.Prelude.{ℕ, suc, ◌<◌, List, [], ◌∷◌, ◌++◌, fold, false, ◌==◌, if◌then◌else◌, Option, Some, None, option_map}
 use Rattle.std.specs.List.{filter_map, cons_option}
 use Rattle.ops_base.specs.declared.conditions.Operand.{Operand}
@@ -20,11 +20,11 @@ use Rattle.net_base.specs.declared.normal.NormalPart.TheVariants as part
 
 -- ---- variables
 
--- what binds a variable, the last of several
+-- what binds a variable: the last of several binders
 abbrev pub origin_of : List Binder → ℕ → Option Origin
 origin_of binders v = fold (λ found b. if b.variable == v then Some b.origin else found) None binders
 
--- what binds stands at places before this one
+-- the binders are at places before this one
 abbrev pub AreBelow : ℕ → List Binder → Type 0
 AreBelow place [] = Unit {0}
 AreBelow place (b ∷ bs) = (b.origin.place < place) × AreBelow place bs
@@ -44,7 +44,7 @@ binders_after place (t ∷ ts) binders =
 
 -- ---- normal form
 
--- none where nothing binds the variable, which no valid program has
+-- none if nothing binds the variable, which does not occur in a valid program
 abbrev pub normal_operand : List Binder → Operand → Option NormalOperand
 normal_operand binders (operand.Constant c) = Some (normal.Constant c)
 normal_operand binders (operand.OneOf cs) = Some (normal.OneOf cs)
@@ -73,7 +73,7 @@ abbrev pub normal_members : ℕ → List Condition → List Binder → List Norm
 normal_members place [] binders = []
 normal_members place (c ∷ cs) binders = normal_member place c binders ∷ normal_members (suc place) cs (binders_after place c.tests binders)
 
--- The parts after this many positive conditions. What a negated condition or a group binds is out of sight after it.
+-- The parts after this many positive conditions. What a negated condition or a group binds is not visible after it.
 abbrev pub normal_parts : ℕ → List Part → List Binder → List NormalPart
 normal_parts place [] binders = []
 normal_parts place (One c ∷ ps) binders =
@@ -81,9 +81,9 @@ normal_parts place (One c ∷ ps) binders =
     ∷ (if c.negated then normal_parts place ps binders else normal_parts (suc place) ps (binders_after place c.tests binders))
 normal_parts place (Group cs ∷ ps) binders = part.Group (normal_members place cs binders) ∷ normal_parts place ps binders
 
--- ---- tests of one element alone
+-- ---- tests of one element
 
--- the operand of a test that looks at the element at this place alone
+-- the operand of a test that looks only at the element at this place
 abbrev pub own_operand : ℕ → NormalOperand → Option Operand
 own_operand place (normal.Constant c) = Some (operand.Constant c)
 own_operand place (normal.OneOf cs) = Some (operand.OneOf cs)
@@ -92,17 +92,17 @@ own_operand place (normal.Bound o) = if o.place == place then Some (operand.Vari
 abbrev pub alpha_test : ℕ → NormalTest → Option Test
 alpha_test place t = option_map (λ o. record { field = t.field; pred = t.pred; operand = o; binds = false }) (own_operand place t.operand)
 
--- the tests of a condition at this place that look at its element alone, in their order
+-- the tests of a condition at this place that look only at its element, in order
 abbrev pub alpha_tests : ℕ → List NormalTest → List Test
 alpha_tests place ts = filter_map (alpha_test place) ts
 
--- the alpha of a condition by itself: what is bound outside it is not in sight
+-- the alpha of a condition by itself: variables bound outside the condition are not visible
 abbrev pub alpha_of : Condition → Alpha
 alpha_of c = record { class = c.class; tests = alpha_tests 0 (normal_tests 0 c.tests []) }
 
 -- ---- tests of several elements
 
--- what another element's test compares with
+-- what a test of another element compares with
 abbrev pub joined_origin : ℕ → NormalOperand → Option Origin
 joined_origin place (normal.Constant c) = None
 joined_origin place (normal.OneOf cs) = None
@@ -111,6 +111,6 @@ joined_origin place (normal.Bound o) = if o.place == place then None else Some o
 abbrev pub join_test : ℕ → NormalTest → Option JoinTest
 join_test place t = option_map (λ o. record { field = t.field; pred = t.pred; place = o.place; other = o.field }) (joined_origin place t.operand)
 
--- the other tests, in their order
+-- the other tests, in order
 abbrev pub join_tests : ℕ → List NormalTest → List JoinTest
 join_tests place ts = filter_map (join_test place) ts

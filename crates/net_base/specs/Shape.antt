@@ -1,4 +1,4 @@
--- How large the network of rules is.
+-- The size of the network of rules.
 use Rattle.std.specs.Prelude.{◌≡◌, ◌<◌, ℕ, suc, List, [], ◌∷◌, ◌++◌, map, length, count_by, Bool, true, false, if◌then◌else◌, slice_get, Some, Contains, AllPairs, ◌≢◌, ◌⊎◌}
 use Rattle.ops_base.specs.declared.conditions.Test.{Test}
 use Rattle.ops_base.specs.declared.rules.Rule.{Rule}
@@ -11,7 +11,7 @@ use Rattle.net_base.specs.declared.counts.Counts.{Counts}
 use Rattle.net_base.specs.Normal.{alpha_tests, normal_parts}
 use Rattle.net_base.specs.Sound.{is_join, is_negated, is_terminal}
 
--- just this many things are so: they stand in a list of this length, each once
+-- exactly this many things have the property: a list of this length contains each once
 pub record HasCount (X : Type 0) (Is : X → Type 0) (n : ℕ) : Type 0 where
   pub all : List X
   pub count : length all ≡ n
@@ -23,7 +23,7 @@ pub record HasCount (X : Type 0) (Is : X → Type 0) (n : ℕ) : Type 0 where
 abbrev pub normal_form : Rule → List NormalPart
 normal_form r = normal_parts 0 r.conditions []
 
--- a part stands after `before` in a list
+-- a part comes right after the parts `before` in a list
 abbrev pub StandsIn : List NormalPart → List NormalPart → NormalPart → Type 0
 StandsIn all before p = (rest : List NormalPart) × (all ≡ before ++ p ∷ rest)
 
@@ -31,7 +31,7 @@ StandsIn all before p = (rest : List NormalPart) × (all ≡ before ++ p ∷ res
 abbrev pub as_parts : List NormalCondition → List NormalPart
 as_parts cs = map One cs
 
--- a member of a group in a list stands after what is before the group and the members up to it
+-- a member of a group in a list comes after the parts before the group and the members before it
 pub record IsMemberIn (all before : List NormalPart) (p : NormalPart) : Type 0 where
   pub outer : List NormalPart
   pub front : List NormalCondition
@@ -53,17 +53,17 @@ abbrev pub is_negative : NormalPart → Bool
 is_negative (One c) = c.negated
 is_negative (Group cs) = true
 
--- a path, given by what stands before its last part and by that one, which has this sign
+-- a path, given by the parts before its last part and by the last part, which has this sign
 abbrev pub IsPathOfSign : List Rule → Bool → List NormalPart × NormalPart → Type 0
 IsPathOfSign rules negative p = IsPath rules p.0 p.1 × (is_negative p.1 ≡ negative)
 
--- how many positive conditions are among the parts
+-- how many of the parts are positive conditions
 abbrev pub positives : List NormalPart → ℕ
 positives [] = 0
 positives (One c ∷ ps) = if c.negated then positives ps else suc (positives ps)
 positives (Group cs ∷ ps) = positives ps
 
--- a class and the alpha tests of some condition of it
+-- a class and the alpha tests of some condition of that class
 abbrev pub IsAlphaList : List Rule → ℕ × List Test → Type 0
 IsAlphaList rules a =
     (before : List NormalPart) × (c : NormalCondition) × IsPath rules before (One c) × (a.0 ≡ c.class) × (a.1 ≡ alpha_tests (positives before) c.tests)

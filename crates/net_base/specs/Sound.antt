@@ -1,4 +1,4 @@
--- What every network keeps.
+-- The invariants of every network.
 use Rattle.std.specs.Prelude.{◌≡◌, ◌<◌, ◌≤◌, ◌&&◌, ℕ, zero, suc, ◌+◌, Bool, true, false, List, [], ◌∷◌, ◌++◌, length, slice_get, Option, Some, None, ◌==◌, if◌then◌else◌, All}
 use Rattle.net_base.specs.declared.nodes.Kind.{Kind}
 use Rattle.net_base.specs.declared.nodes.Kind.TheVariants.{Join, Negated, Group, Terminal}
@@ -15,12 +15,12 @@ abbrev pub child_if : Option Node → ℕ → ℕ → List ℕ
 child_if None n i = []
 child_if (Some x) n i = if is_parent x.parent n then i ∷ [] else []
 
--- the nodes below the bound that name n as parent, in order
+-- the nodes with numbers below the bound that name n as parent, in order
 abbrev pub children_below : List Node → ℕ → ℕ → List ℕ
 children_below nodes zero n = []
 children_below nodes (suc i) n = children_below nodes i n ++ child_if (slice_get nodes i) n i
 
--- each node has as children just the nodes that name it as parent, each once
+-- the children of each node are exactly the nodes that name it as parent, each once
 abbrev pub HasChildren : List Node → Type 0
 HasChildren nodes = (n : ℕ) (x : Node) → slice_get nodes n ≡ Some x → x.children ≡ children_below nodes (length nodes) n
 
@@ -33,12 +33,12 @@ abbrev pub right_if : Option Node → ℕ → ℕ → List ℕ
 right_if None n i = []
 right_if (Some x) n i = if is_giver x.kind n then i ∷ [] else []
 
--- the groups below the bound that have n as their giver, in order
+-- the groups with numbers below the bound that have n as their giver, in order
 abbrev pub rights_below : List Node → ℕ → ℕ → List ℕ
 rights_below nodes zero n = []
 rights_below nodes (suc i) n = rights_below nodes i n ++ right_if (slice_get nodes i) n i
 
--- each node has as `rights` just the groups that name it as giver, each once
+-- the `rights` of each node are exactly the groups that name it as giver, each once
 abbrev pub HasRights : List Node → Type 0
 HasRights nodes = (n : ℕ) (x : Node) → slice_get nodes n ≡ Some x → x.rights ≡ rights_below nodes (length nodes) n
 
@@ -50,7 +50,7 @@ abbrev pub depth_above : List Node → Option ℕ → ℕ
 depth_above nodes None = 0
 depth_above nodes (Some p) = depth_of (slice_get nodes p)
 
--- ---- how long tokens are
+-- ---- the lengths of tokens
 
 -- how many tags a node adds to a left token
 abbrev pub added_tags : Kind → ℕ
@@ -67,16 +67,16 @@ abbrev pub width_of_node : (ℕ → ℕ) → Option Node → ℕ
 width_of_node widths None = 0
 width_of_node widths (Some x) = width_above widths x.parent + added_tags x.kind
 
--- of each node whose number is below the bound
+-- for each node whose number is below the bound
 abbrev pub width_below : ℕ → List Node → ℕ → ℕ
 width_below zero nodes n = 0
 width_below (suc k) nodes n = width_of_node (width_below k nodes) (slice_get nodes n)
 
--- how many tags the tokens have that a node puts out
+-- the number of tags of the tokens that a node puts out
 abbrev pub width : List Node → ℕ → ℕ
 width nodes n = width_below (suc n) nodes n
 
--- how many tags the left tokens have below this parent
+-- the number of tags of the left tokens below this parent
 abbrev pub left_width : List Node → Option ℕ → ℕ
 left_width nodes parent = width_above (width nodes) parent
 
@@ -118,19 +118,20 @@ abbrev pub up_node : (ℕ → Bool) → Option Node → Bool
 up_node go None = false
 up_node go (Some x) = is_join x.kind && up_parent go x.parent
 
--- going up that number of joins from node n leads to this parent
+-- going up this many joins from node n leads to this parent
 abbrev pub goes_up : List Node → ℕ → Option ℕ → ℕ → Bool
 goes_up nodes zero parent n = is_parent parent n
 goes_up nodes (suc k) parent n = up_node (goes_up nodes k parent) (slice_get nodes n)
 
--- The giver comes before the group n, and is reached from the group's parent by as many joins as there are members.
+-- The giver comes before the group n, and the group's parent is reached from it by going up as many joins as there
+-- are members.
 pub record IsGroup (nodes : List Node) (n : ℕ) (x : Node) (giver width members : ℕ) : Type 0 where
   pub before : giver < n
   pub wide : width ≡ left_width nodes x.parent
   pub two : 2 ≤ members
   pub down : goes_up nodes members x.parent giver ≡ true
 
--- the node that the depth goes by: the giver of a group, and else the parent
+-- the node that determines the depth: the giver of a group, otherwise the parent
 abbrev pub deepest : Kind → Option ℕ → Option ℕ
 deepest (Group giver width members) parent = Some giver
 deepest _ parent = parent
@@ -138,14 +139,14 @@ deepest _ parent = parent
 -- ---- sound
 
 -- A terminal and a group have no tests. Their class and alpha are 0 and are not used; 0 may also be the number of an
--- alpha.
+-- existing alpha.
 pub record IsBare (x : Node) : Type 0 where
   pub joins : length x.joins ≡ 0
   pub class : x.class ≡ 0
   pub alpha : x.alpha ≡ 0
 
--- Node n is as it is to be. The node of a condition or a member names an alpha, which has its class, and its tests look
--- at places in its left tokens. A group stands one deeper than its giver.
+-- Node n is well-formed. The node of a condition or a member names an alpha, which has its class, and its tests look
+-- at places in its left tokens. The depth of a group is one more than that of its giver.
 pub record IsSoundAt (alphas : List Alpha) (nodes : List Node) (n : ℕ) (x : Node) : Type 0 where
   pub parent : (p : ℕ) → x.parent ≡ Some p → p < n
   pub root : x.parent ≡ None → is_join x.kind ≡ true
@@ -157,7 +158,7 @@ pub record IsSoundAt (alphas : List Alpha) (nodes : List Node) (n : ℕ) (x : No
   pub terminal : is_terminal x.kind ≡ true → (length x.children ≡ 0) × (length x.rights ≡ 0)
   pub group : (giver width members : ℕ) → x.kind ≡ Group giver width members → IsGroup nodes n x giver width members
 
--- Each node is as it is to be, and no two terminals have one rule.
+-- Each node is well-formed, and no two terminals have the same rule.
 pub record IsSound (alphas : List Alpha) (nodes : List Node) : Type 0 where
   pub each : (n : ℕ) (x : Node) → slice_get nodes n ≡ Some x → IsSoundAt alphas nodes n x
   pub children : HasChildren nodes

@@ -1,4 +1,4 @@
--- What stands at each node of a network over a working memory.
+-- The tokens at each node of a network over a working memory.
 use Rattle.std.specs.Prelude.{ℕ, zero, suc, ◌+◌, ◌*◌, ◌^◌, Bool, true, false, ◌&&◌, List, [], ◌∷◌, ◌++◌, take, bytes_eq, find, slice_get, slice_index, Option, Some, None, ◌==◌, if◌then◌else◌}
 use Rattle.std.specs.List.{list_all, list_any}
 use Rattle.ops_base.specs.declared.values.Value.{Value}
@@ -17,14 +17,14 @@ use Rattle.net_base.specs.declared.nodes.Alpha.{Alpha}
 
 -- ---- elements
 
--- the element that a tag names, none where no element has it
+-- the element that a tag refers to, none if no element has the tag
 abbrev pub Elements : Type 0
 Elements = ℕ → Option Element
 
 abbrev pub elements_of : List Element → Elements
 elements_of wm tag = find (λ e. e.tag == tag) wm
 
--- a field of the element, nil where there is none
+-- a field of the element, nil if there is no element
 abbrev pub field_in : Option Element → ℕ → Value
 field_in None f = nil
 field_in (Some e) f = field_of e f
@@ -51,7 +51,7 @@ abbrev pub join_test_holds : Elements → List ℕ → ℕ → JoinTest → Bool
 join_test_holds elements t e j =
     holds_of j.pred (field_in (elements e) j.field) (field_in (elements (slice_index t j.place)) j.other)
 
--- each test holds of the element of the tag e and of the elements that the left token t names
+-- each test holds of the element with the tag e and of the elements that the left token t names
 abbrev pub joins_hold : List JoinTest → Elements → List ℕ → ℕ → Bool
 joins_hold tests elements t e = list_all (join_test_holds elements t e) tests
 
@@ -61,7 +61,7 @@ joins_hold tests elements t e = list_all (join_test_holds elements t e) tests
 abbrev pub covers : ℕ → List ℕ → List ℕ → Bool
 covers width t r = bytes_eq t (take width r)
 
--- At a join or a negated node a right token is the tag of one element, at a group a token of its giver.
+-- At a join or a negated node, a right token is the tag of one element; at a group, it is a token of its giver.
 abbrev pub goes_with : Kind → List JoinTest → Elements → List ℕ → List ℕ → Bool
 goes_with Join tests elements t r = joins_hold tests elements t (slice_index r 0)
 goes_with Negated tests elements t r = joins_hold tests elements t (slice_index r 0)
@@ -77,11 +77,11 @@ right_width (Terminal rule) = 0
 
 -- ---- what a node puts out
 
--- how often each token stands
+-- how many times each token occurs
 abbrev pub Tokens : Type 0
 Tokens = List ℕ → ℕ
 
--- the first tags of a token of one tag or more, and its last one
+-- all but the last tag of a nonempty token, and the last tag
 abbrev pub front : ℕ → List ℕ → List ℕ
 front x [] = []
 front x (y ∷ ys) = x ∷ front y ys
@@ -95,13 +95,13 @@ unfoldable pub sum_to : ℕ → (ℕ → ℕ) → ℕ
 sum_to zero f = 0
 sum_to (suc k) f = f k + sum_to k f
 
--- the number of right tokens that pass the test, of those that begin with these tags and have that number of tags
--- more, each below the bound
+-- the number of right tokens that pass the test, among those that consist of these tags followed by that number of
+-- further tags, each below the bound
 abbrev pub count_from : ℕ → ℕ → (List ℕ → Bool) → Tokens → List ℕ → ℕ
 count_from tags zero test right r = if test r then right r else 0
 count_from tags (suc more) test right r = sum_to tags (λ k. count_from tags more test right (r ++ k ∷ []))
 
--- how often right tokens stand that go with the left token, where all tags are below the bound
+-- the number of right tokens that go with the left token, if all tags are below the bound
 abbrev pub count_with : ℕ → Kind → List JoinTest → Elements → List ℕ → Tokens → ℕ
 count_with tags kind tests elements t right = count_from tags (right_width kind) (goes_with kind tests elements t) right []
 
@@ -111,20 +111,20 @@ out_of_join tests elements left right [] = 0
 out_of_join tests elements left right (x ∷ xs) =
     if joins_hold tests elements (front x xs) (last x xs) then left (front x xs) * right (last x xs ∷ []) else 0
 
--- each left token with which no right token goes
+-- each left token that no right token goes with
 abbrev pub out_of_negated : ℕ → Kind → List JoinTest → Elements → Tokens → Tokens → Tokens
 out_of_negated tags kind tests elements left right t = if count_with tags kind tests elements t right == 0 then left t else 0
 
--- what a node puts out, of its left and right tokens, where all tags are below `tags`
+-- what a node puts out, given its left and right tokens, if all tags are below `tags`
 abbrev pub out_of : ℕ → Elements → Kind → List JoinTest → Tokens → Tokens → Tokens
 out_of tags elements Join tests left right t = out_of_join tests elements left right t
 out_of tags elements Negated tests left right t = out_of_negated tags Negated tests elements left right t
 out_of tags elements (Group giver width members) tests left right t = out_of_negated tags (Group giver width members) tests elements left right t
 out_of tags elements (Terminal rule) tests left right t = left t
 
--- ---- what a node is given
+-- ---- what feeds a node
 
--- what gives the tokens of one side of a node: nothing, the root, working memory, or a node
+-- what feeds one side of a node: nothing, the root, working memory, or a node
 pub data Giver : Type 0 where
   Nothing : Giver
   Root : Giver
@@ -163,7 +163,7 @@ memory_gives wm alpha [] = 0
 memory_gives wm alpha (tag ∷ []) = times_passed alpha (elements_of wm tag)
 memory_gives wm alpha (tag ∷ x ∷ xs) = 0
 
--- what a giver gives, where `memory` is what working memory gives and `outs` what each node puts out
+-- what a giver gives; `memory` is what working memory gives, and `outs` is what each node puts out
 abbrev pub given : Giver → Tokens → (ℕ → Tokens) → Tokens
 given Nothing memory outs t = 0
 given Root memory outs t = root_gives t
@@ -172,7 +172,7 @@ given (Out p) memory outs t = outs p t
 
 -- ---- the tokens of each node
 
--- of a node, where `outs` is what the nodes before it put out
+-- of a node; `outs` is what the nodes before it put out
 abbrev pub tokens_of_node : ℕ → Elements → List Element → List Alpha → (ℕ → Tokens) → Option Node → Tokens
 tokens_of_node tags elements wm alphas outs None t = 0
 tokens_of_node tags elements wm alphas outs (Some node) t =
@@ -180,13 +180,13 @@ tokens_of_node tags elements wm alphas outs (Some node) t =
     (given (left_giver node) (memory_gives wm (slice_get alphas node.alpha)) outs)
     (given (right_giver node) (memory_gives wm (slice_get alphas node.alpha)) outs) t
 
--- of each node whose number is below the bound
+-- for each node whose number is below the bound
 abbrev pub tokens_below : ℕ → ℕ → Elements → List Element → List Alpha → List Node → ℕ → Tokens
 tokens_below zero tags elements wm alphas nodes n t = 0
 tokens_below (suc k) tags elements wm alphas nodes n t =
     tokens_of_node tags elements wm alphas (tokens_below k tags elements wm alphas nodes) (slice_get nodes n) t
 
--- how often each token stands at a node, the tags being below 2 ^ 64
+-- how many times each token occurs in a node's output; the tags are below 2 ^ 64
 abbrev pub tokens : List Element → List Alpha → List Node → ℕ → Tokens
 tokens wm alphas nodes n t = tokens_below (suc n) (2 ^ 64) (elements_of wm) wm alphas nodes n t
 
@@ -194,7 +194,7 @@ abbrev pub given_in : List Element → List Alpha → List Node → (Node → Gi
 given_in wm alphas nodes giver None t = 0
 given_in wm alphas nodes giver (Some node) t = given (giver node) (memory_gives wm (slice_get alphas node.alpha)) (tokens wm alphas nodes) t
 
--- how often each token stands at the left side of a node, and at its right side
+-- how many times each token occurs at the left side of a node, and at its right side
 abbrev pub left_tokens : List Element → List Alpha → List Node → ℕ → Tokens
 left_tokens wm alphas nodes n t = given_in wm alphas nodes left_giver (slice_get nodes n) t
 

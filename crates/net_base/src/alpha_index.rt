@@ -13,8 +13,8 @@ use ops_base::memory::OutOfMemory;
 use ops_base::values::Pred;
 use std::alloc::Global;
 
-/// The alphas that want no constant by their classes, the others by their keys, and for each class the fields in which
-/// its alphas first want a constant, each field once.
+/// The alphas that require no constant by class, the others by key, and for each class the fields in which its alphas
+/// first require a constant, each field once.
 #[derive(Drop)]
 pub(crate) struct AlphaIndex {
     plain: Rows,
@@ -22,7 +22,7 @@ pub(crate) struct AlphaIndex {
     fields: Rows,
 }
 
-/// The constant that the test wants in its field.
+/// The constant that the test requires in its field.
 fn constant_of(test: &Test) -> Option<Constant>
     ensures { result ≡ constant_of test.now }
 {
@@ -96,8 +96,8 @@ impl AlphaIndex {
         }
     }
 
-    /// What is found by the class of the element, and by what it has in each field that matters in its class. It goes
-    /// into an empty list.
+    /// The numbers found by the class of the element, and by the value in each field that matters in its class. They
+    /// are put into an empty list.
     pub(crate) fn find(&self, element: &Element, found: &mut Numbers) -> Result<(), OutOfMemory>
         requires { found.old.items ≡ [] }
         ensures { OnOk result (found.new.items ≡ found_in self.now element.now) }

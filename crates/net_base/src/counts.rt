@@ -1,4 +1,4 @@
-//! How large a network is.
+//! The size of a network.
 
 /// The numbers of alphas and of nodes of each kind. A group is counted among the negated nodes.
 #[derive(Clone, Copy, Debug, PartialEq, Eq)]

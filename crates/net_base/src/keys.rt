@@ -1,15 +1,15 @@
-//! What alphas are looked up by.
+//! The keys by which alphas are looked up.
 
 use ops_base::values::Value;
 
-/// A field and the constant that is to stand in it.
+/// A field and the constant that is required in it.
 #[derive(Clone, Copy, PartialEq, Eq, Hash)]
 pub(crate) struct Constant {
     pub(crate) field: usize,
     pub(crate) value: Value,
 }
 
-/// A class, and the first constant that an alpha of that class wants, if it wants one.
+/// A class, and the first constant that an alpha of that class requires, if it requires one.
 #[derive(Clone, Copy, PartialEq, Eq, Hash)]
 pub(crate) struct Key {
     pub(crate) class: usize,

@@ -1,5 +1,5 @@
-//! The network that productions share: its nodes and alphas, conditions and groups in normal form, what stands at each
-//! node over a working memory, and the type of networks that are sound.
+//! The network that productions share: its nodes and alphas, conditions and groups in normal form, the tokens at each
+//! node over a working memory, and the type of sound networks.
 #![tactic(auto)]
 
 mod alpha_index;

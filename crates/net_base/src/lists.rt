@@ -14,7 +14,7 @@ pub(crate) struct Lists<K: Eq + Hash> {
 }
 
 impl<K: Eq + Hash + Copy + Drop> Lists<K> {
-    /// Takes no memory.
+    /// No lists. Takes no memory.
     pub(crate) fn new(alloc: Global) -> Lists<K>
         ensures { (key : K) → list_at K.eq result key ≡ [] }
     {
@@ -23,7 +23,7 @@ impl<K: Eq + Hash + Copy + Drop> Lists<K> {
         }
     }
 
-    /// The list under this key. One look-up.
+    /// The list under this key. It makes one lookup.
     pub(crate) fn at(&self, key: K) -> &[usize]
         ensures { result.now ≡ list_at K.eq self.now key }
     {
@@ -33,7 +33,7 @@ impl<K: Eq + Hash + Copy + Drop> Lists<K> {
         }
     }
 
-    /// Adds a number at the end of the list under this key.
+    /// Appends a number to the list under this key.
     pub(crate) fn add(&mut self, alloc: Global, key: K, item: usize) -> Result<(), OutOfMemory>
         ensures { OnOk result (AddsItem K.eq self.old self.new key item) }
     {

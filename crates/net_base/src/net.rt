@@ -1,4 +1,4 @@
-//! Networks, each sound by its type.
+//! Networks, which are sound by their type.
 ghost use Rattle.std.specs.Prelude.{◌≡◌, ◌≢◌, ℕ, [], All, AllPairs, Contains, IfOk, IsTrue, OnOk, Some, count_by, slice_get};
 ghost use Rattle.net_base.specs.declared.nodes.Alpha.{Alpha};
 ghost use Rattle.net_base.specs.Sound.{IsSound, is_join, is_negated, is_terminal, takes_elements};
@@ -20,9 +20,9 @@ use std::alloc::Global;
 /// Numbers of nodes or of alphas. Up to 16 take no memory.
 pub type Numbers = SmallVec<usize, 16>;
 
-/// A network. The parent of each node and the giver of each group have smaller numbers, all numbers of nodes, of alphas
-/// and of places in a left token are in range, the children of a node are exactly the nodes that name it as parent, and
-/// its `rights` exactly the groups that name it as giver.
+/// A network. The parent of each node and the giver of each group have smaller numbers. All numbers of nodes, of
+/// alphas and of places in a left token are in range. The children of a node are exactly the nodes that name it as
+/// parent, and its `rights` exactly the groups that name it as giver.
 #[derive(Drop)]
 pub struct Net {
     alphas: Listed<Alpha>,
@@ -102,8 +102,8 @@ fn takers(alloc: Global, nodes: &[Node]) -> Result<Rows, OutOfMemory>
 }
 
 impl Net {
-    /// It looks at the tests of each alpha up to its first constant and at each node once. It takes memory for each
-    /// alpha and each node.
+    /// Looks at the tests of each alpha up to its first constant, and at each node once. Takes memory for each alpha
+    /// and each node.
     pub fn new(
         alloc: Global,
         alphas: Listed<Alpha>,
@@ -123,14 +123,14 @@ impl Net {
         })
     }
 
-    /// Takes no memory.
+    /// The alphas. Takes no memory.
     pub fn alphas(&self) -> &[Alpha]
         ensures { result.now ≡ self.now.alphas }
     {
         self.alphas.as_slice()
     }
 
-    /// Takes no memory.
+    /// The nodes. Takes no memory.
     pub fn nodes(&self) -> &[Node]
         ensures nodes { result.now ≡ self.now.nodes }
         ensures sound { IsSound self.now.alphas self.now.nodes }
@@ -138,9 +138,10 @@ impl Net {
         self.nodes.as_slice()
     }
 
-    /// The alphas that the element can pass: those of its class that want no constant, and those whose first constant
-    /// it has. They go into an empty list. What its class alone decides is read at the place of the class, and there is
-    /// one look-up for each field in which an alpha of its class first wants a constant. Up to 16 take no memory.
+    /// The alphas that the element can pass: those of its class that require no constant, and those whose first
+    /// constant it has. They are put into an empty list. The alphas that the class alone decides are read at the
+    /// index of the class, and there is one lookup for each field in which an alpha of its class first requires a
+    /// constant. Up to 16 take no memory.
     pub fn candidates(&self, element: &Element, found: &mut Numbers) -> Result<(), OutOfMemory>
         requires { found.old.items ≡ [] }
         ensures passed { OnOk result ((n : ℕ) (a : Alpha) → slice_get self.now.alphas n ≡ Some a
@@ -151,8 +152,8 @@ impl Net {
         self.index.find(element, found)
     }
 
-    /// The join and negated nodes of this alpha, in their order: their right tokens are the elements that pass it.
-    /// Takes no memory, and looks for nothing.
+    /// The join and negated nodes of this alpha, in order: their right tokens are the elements that pass it. Takes no
+    /// memory, and makes no lookup.
     pub fn takers(&self, alpha: usize) -> &[usize]
         ensures { result.now ≡ takers_of self.now.nodes alpha }
     {
@@ -160,7 +161,7 @@ impl Net {
     }
 
     /// How many alphas it has, and how many nodes of each kind. The nodes of a group's members are counted as joins,
-    /// and its own as a negated node. It looks at each node three times, and takes no memory.
+    /// and the group's own node as a negated node. It looks at each node three times, and takes no memory.
     pub fn counts(&self) -> Counts
         ensures { result ≡ counts_of self.now.alphas self.now.nodes }
     {

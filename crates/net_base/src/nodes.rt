@@ -6,13 +6,13 @@ use ops_base::values::Pred;
 
 #[derive(Clone, Copy, Debug, PartialEq, Eq)]
 pub enum Kind {
-    /// Of a positive condition or a member of a group: it joins an element to a token.
+    /// For a positive condition or a member of a group: joins an element to a token.
     Join,
-    /// Of a negated condition: it lets a token pass while no element meets it.
+    /// For a negated condition: lets a token pass while no element matches it.
     Negated,
-    /// Of a group: it lets a token pass while no token of its giver, the node of the group's last member, begins with
-    /// that token. `width` is the number of tags of its left tokens, and a token of the giver has one tag more for each
-    /// of the group's `members`.
+    /// For a group: lets a token pass while no token of its giver, the node of the group's last member, begins with
+    /// that token. `width` is the number of tags of its left tokens, and a token of the giver has one more tag for
+    /// each of the group's `members`.
     Group {
         giver: usize,
         width: usize,
@@ -33,9 +33,9 @@ pub struct JoinTest {
     pub other: usize,
 }
 
-/// A node's left tokens come from its parent, and from the root where it has none. The right tokens of a join or a
-/// negated node are the elements that pass its alpha, those of a group are the tokens of its giver, and a terminal has
-/// none. The class and alpha of a group or a terminal are 0 and are not used, although there may be an alpha 0: no
+/// A node. Its left tokens come from its parent, or from the root if it has none. The right tokens of a join or a
+/// negated node are the elements that pass its alpha; those of a group are the tokens of its giver; a terminal has
+/// none. The class and alpha of a group or a terminal are 0 and are not used, although an alpha 0 may exist: no
 /// element goes to such a node.
 #[derive(Drop)]
 pub struct Node {
@@ -48,11 +48,11 @@ pub struct Node {
     pub children: Listed<usize>,
     /// The groups whose giver it is.
     pub rights: Listed<usize>,
-    /// How many nodes a token passes from the root to here, this one counted.
+    /// How many nodes a token passes from the root to here, including this one.
     pub depth: usize,
 }
 
-/// A class, and tests that look at one element alone. A variable in such a test is a field of the same element.
+/// A class, and tests that look only at one element. A variable in such a test is a field of the same element.
 #[derive(Drop)]
 pub struct Alpha {
     pub class: usize,

@@ -3,9 +3,9 @@
 use ops_base::list::Listed;
 use ops_base::values::{Pred, Value};
 
-/// A field of the element of a condition, given by how many positive conditions stand before that one. A member of a
-/// group counts the members before it too. For a positive condition or a member this number is the place of its element
-/// in a token; for a negated condition it stands for the element that is looked at.
+/// A field of the element of a condition, which is identified by the number of positive conditions before it. For a
+/// member of a group this number includes the members before it. For a positive condition or a member, the number is
+/// the place of its element in a token; for a negated condition it refers to the element that is being tested.
 #[derive(Clone, Copy, Debug, PartialEq, Eq)]
 pub struct Origin {
     pub place: usize,

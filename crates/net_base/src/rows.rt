@@ -1,19 +1,19 @@
-//! Rows of numbers, each found by its own number.
+//! Rows of numbers, each at an index.
 ghost use Rattle.std.specs.Prelude.{◌≡◌, ◌<◌, ℕ, [], OnOk, length};
 ghost use Rattle.net_base.specs.Rows.{AddsTo, row_at};
 
 use ops_base::memory::OutOfMemory;
 use std::alloc::Global;
 
-/// A row under each number, empty where nothing was added to it. There is room for a row under each number up to the
-/// greatest that something was added to.
+/// A row for each index, empty if nothing was added to it. There is room for a row for each index up to the greatest
+/// that something was added to.
 #[derive(Drop)]
 pub(crate) struct Rows {
     rows: Vec<Vec<usize>>,
 }
 
 impl Rows {
-    /// Takes no memory.
+    /// No rows. Takes no memory.
     pub(crate) fn new(alloc: Global) -> Rows
         ensures { (number : ℕ) → row_at result number ≡ [] }
     {
@@ -22,7 +22,7 @@ impl Rows {
         }
     }
 
-    /// The row under this number. It is read at its place, and nothing is looked for.
+    /// The row with this index. It is read directly, without a lookup.
     pub(crate) fn at(&self, number: usize) -> &[usize]
         ensures { result.now ≡ row_at self.now number }
     {
@@ -32,7 +32,7 @@ impl Rows {
         }
     }
 
-    /// Makes room for the row under this number.
+    /// Makes room for the row with this index.
     fn widen(&mut self, alloc: Global, number: usize) -> Result<(), OutOfMemory>
         ensures room { OnOk result (number < length self.new.rows.items) }
         ensures rows { OnOk result ((other : ℕ) → row_at self.new other ≡ row_at self.old other) }
@@ -43,7 +43,7 @@ impl Rows {
         Ok(())
     }
 
-    /// Adds a number at the end of the row under this number.
+    /// Appends a number to the row with this index.
     pub(crate) fn add(
         &mut self,
         alloc: Global,

@@ -58,7 +58,7 @@ impl Tags {
         }
     }
 
-    /// Up to five tags take no memory.
+    /// A token with these tags. Up to five tags take no memory.
     pub fn from_slice(alloc: Global, tags: &[u64]) -> Result<Tags, OutOfMemory>
         ensures { IfOk result (λ t. t ≡ tags.now) }
     {
@@ -67,28 +67,28 @@ impl Tags {
         })
     }
 
-    /// Up to five tags take no memory.
+    /// A copy of the token. Up to five tags take no memory.
     pub fn copy(&self, alloc: Global) -> Result<Tags, OutOfMemory>
         ensures { IfOk result (λ t. t ≡ self.now) }
     {
         Tags::from_slice(alloc, self.tags.as_slice())
     }
 
-    /// Takes no memory.
+    /// The tags. Takes no memory.
     pub fn as_slice(&self) -> &[u64]
         ensures { result.now ≡ self.now }
     {
         self.tags.as_slice()
     }
 
-    /// Takes no memory.
+    /// The number of tags. Takes no memory.
     pub fn len(&self) -> usize
         ensures { result ≡ length self.now }
     {
         self.tags.as_slice().len()
     }
 
-    /// Adds a tag at the end. The sixth takes memory, and later ones now and then.
+    /// Appends a tag. The sixth takes memory, and later ones now and then.
     pub fn push(&mut self, tag: u64) -> Result<(), OutOfMemory>
         ensures ok { OnOk result (self.new ≡ self.old ++ tag ∷ []) }
         ensures err { OnErr result (self.new ≡ self.old) }

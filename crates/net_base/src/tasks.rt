@@ -5,15 +5,15 @@ use crate::tags::Tags;
 use ops_base::memory::OutOfMemory;
 use std::alloc::Global;
 
-/// The side of a node at which a token stands or arrives.
+/// The side of a node at which a token is or arrives.
 #[derive(Clone, Copy, Debug, PartialEq, Eq)]
 pub enum Side {
     Left,
     Right,
 }
 
-/// A token arrives at one side of a node (`plus`), or leaves it. A right token is the tag of one element, at a group a
-/// token of its giver.
+/// A token arrives at one side of a node if `plus` is set, and leaves it otherwise. A right token is the tag of one
+/// element, or at a group a token of its giver.
 #[derive(Drop)]
 pub struct Task {
     pub node: usize,
@@ -23,7 +23,7 @@ pub struct Task {
 }
 
 impl Task {
-    /// Takes memory where the token has more than five tags.
+    /// A copy of the task. Takes memory if the token has more than five tags.
     pub fn copy(&self, alloc: Global) -> Result<Task, OutOfMemory>
         ensures { IfOk result (λ t. t ≡ self.now) }
     {

@@ -1,4 +1,4 @@
-//! Tokens, tasks and the alphas that an element can pass, with ample memory.
+//! Tokens, tasks and the alphas that an element can pass, with enough memory.
 
 use crate::net::{Net, Numbers};
 use crate::nodes::Alpha;

@@ -1,4 +1,4 @@
--- What is answered of a text.
+-- What is reported about a text.
 use Rattle.std.specs.Prelude.{◌≡◌, ℕ, List, [], ◌∷◌, length, Option, Some, None, Result, Ok, Err}
 use Rattle.ops_base.specs.Names.{Spellings}
 use Rattle.ops_tokens.specs.declared.token.LexFault.{LexFault}
@@ -25,7 +25,7 @@ IsRefusal text refusal.OutOfMemory = Unit {0}
 IsRefusal text (refusal.At f line column) =
     (at : ℕ) × (reads text ≡ Err (record { fault = f; at = at })) × (line ≡ line_of text at) × (column ≡ column_of text at)
 
--- the fault stands so in the text, at this line and column
+-- the fault is at this place in the text, at this line and column
 abbrev pub IsStanding : List ℕ → ProgramFault → Type 0
 IsStanding text refusal.OutOfMemory = Unit {0}
 IsStanding text (refusal.At f line column) =
@@ -35,7 +35,7 @@ IsStanding text (refusal.At f line column) =
 abbrev pub read_of : Draft → Spellings → Read
 read_of d names = record { classes = d.classes; rules = d.rules; commands = d.commands; names = names }
 
--- this is answered where that is read
+-- if the text is read as `read`, this may be the result
 abbrev pub IsAnswer : Result Read Placed → Result (Draft × Spellings) TextFault → Type 0
 IsAnswer read (Ok x) = read ≡ Ok (read_of x.0 x.1)
 IsAnswer read (Err (answer.At f at)) = read ≡ Err (record { fault = f; at = at })
@@ -50,7 +50,7 @@ stop_of end.Closed = None
 stop_of (end.Fault f) = Some f
 stop_of end.Text = None
 
--- where a refusal stands in a text of this length
+-- the place of a refusal in a text of this length
 abbrev pub fault_at : Refusal → FormEnd → ℕ → TextFault
 fault_at refused.OutOfMemory e length = answer.OutOfMemory
 fault_at (refused.At f None) e length = placed (cut_off length (stop_of e))
@@ -59,18 +59,18 @@ fault_at (refused.At f (Some w)) e length = answer.At f w.first
 abbrev pub rest_by : List ℕ → Spellings → State → Lexed → Result Read Placed
 rest_by text names s l = verdict (length text) (names_from text names l.tokens) l.stop (goes (words_from text names l.tokens) (Forms ∷ []) s)
 
--- what the text is read as from a place on, where this was read before
+-- what the text is read as from this place on, after this was read before
 abbrev pub rest_of : List ℕ → Spellings → ℕ → State → Result Read Placed
 rest_of text names from s = rest_by text names s (lexed_at text from)
 
--- what stands next in the text: no form, a form, or the fault that it is read as
+-- what comes next in the text: no form, a form, or the fault that the text has
 abbrev pub Comes : List ℕ → ℕ → Result (Option Form) TextFault → Type 0
 Comes text from (Ok None) = lexed_at text from ≡ none_by None
 Comes text from (Ok (Some form)) = IsForm text from form
 Comes text from (Err (answer.At f at)) = (names : Spellings) (s : State) → rest_of text names from s ≡ Err (record { fault = f; at = at })
 Comes text from (Err answer.OutOfMemory) = Unit {0}
 
--- what was read as that is read as this, or is the fault
+-- what was read as `old` is read as `new`, or as the fault
 abbrev pub Continues : Result Read Placed → Result Read Placed → Result Unit TextFault → Type 0
 Continues old new (Ok x) = old ≡ new
 Continues old new (Err (answer.At f at)) = old ≡ Err (record { fault = f; at = at })

@@ -1,4 +1,4 @@
--- How the code's walk over the words goes along with the definition's.
+-- How the code's walk over the words follows the definition's walk.
 use Rattle.std.specs.Prelude.{◌≡◌, Bool, true, false, ◌||◌, is_some, List, [], ◌∷◌, ◌++◌, Some, None, Result, Ok, Err}
 use Rattle.ops_grammar.specs.declared.words.Word.{Word}
 use Rattle.ops_grammar.specs.Grammar.{Target as Goal, ToFixed, ToConstants, TagUse as TagGoal, ToRemove, ToShow, NameUse as NameGoal, ToPrint, ToBreak, ToExcise, ToMatch, Forms, State, is_literal, value_of, no_formula, goes}
@@ -14,12 +14,12 @@ use Rattle.ops_check.specs.declared.draft.ElementUse.TheVariants as element_use
 use Rattle.ops_check.specs.declared.draft.NameUse.{NameUse}
 use Rattle.ops_check.specs.declared.draft.NameUse.TheVariants as name_use
 
--- whether the element of a command is shown
+-- whether the elements of a command are shown
 abbrev pub shows : ElementUse → Bool
 shows element_use.Make = false
 shows element_use.Show = true
 
--- what a draft holds, which is nothing of a side of a production that is being read
+-- what a draft holds: nothing of a side of a production that is being read
 abbrev pub view : Draft → State
 view d =
     record {
@@ -75,7 +75,7 @@ name_use_of name_use.Break = ToBreak
 name_use_of name_use.Excise = ToExcise
 name_use_of name_use.Match = ToMatch
 
--- a call read all words as forms
+-- the call read all words as forms
 abbrev pub ReadsAll : State → State → List Word → Result Unit Refusal → Type 0
 ReadsAll old new words (Ok x) = (more : List Word) → goes (words ++ more) (Forms ∷ []) old ≡ goes more (Forms ∷ []) new
 ReadsAll old new words (Err refusal.OutOfMemory) = Unit {0}

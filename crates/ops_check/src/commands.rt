@@ -1,4 +1,4 @@
-//! The commands of one word, and those of one word and an argument.
+//! The commands that consist of one word, and those with one argument.
 ghost use Rattle.ops_grammar.specs.Grammar.{Count, StrategyName, Level, Undone, Closes, EndsCs, EndsExit};
 ghost use Rattle.ops_forms.specs.WordWalks.{Reads, IsWithin};
 ghost use Rattle.ops_check.specs.Walks.{view};

@@ -1,4 +1,4 @@
-//! What was read so far of a program, and how it grows.
+//! What was read of a program so far, and how it grows.
 ghost use Rattle.std.specs.Prelude.{◌≡◌, ◌==◌, position, slice_get};
 ghost use Rattle.ops_base.specs.Valid.{class_of, is_vector};
 ghost use Rattle.ops_grammar.specs.Grammar.{nothing_read, is_class, is_rule, is_one_of, is_second, makes_second, may_declare, is_beginning, with_class, with_vector, with_fixed, with_constant, with_command, with_production, attributes_of};
@@ -48,12 +48,12 @@ pub(crate) enum ElementUse {
 }
 
 /// The classes, rules and commands that were read, and the parts of the form that is being read. The fields are those
-/// of the state of the definition's walk (`State` in the specs/Grammar.antt of ops_grammar), which hands values from
-/// one method to the next.
+/// of the state of the definition's walk (`State` in specs/Grammar.antt of ops_grammar). They carry values from one
+/// method to the next.
 #[derive(Drop)]
 pub(crate) struct Draft {
     pub(crate) classes: Classes,
-    /// The productions of the beginning. A later one is added by a command.
+    /// The productions at the beginning. A later production is added by a command.
     pub(crate) rules: Declared<Rule>,
     pub(crate) commands: GivenCommands,
     /// The names of vector attributes.
@@ -75,11 +75,11 @@ pub(crate) struct Draft {
     pub(crate) tags: Vec<u64>,
     /// The names of a command.
     pub(crate) named: Vec<Sym>,
-    /// The value variables that a production leaves in sight, until the next one begins.
+    /// The value variables that a production leaves in sight, until the next production begins.
     pub(crate) values: Declared<Named>,
     /// The element variables that it leaves in sight.
     pub(crate) elements: Declared<Named>,
-    /// How many variables it gave a number.
+    /// How many variables that production gave a number.
     pub(crate) variables: usize,
     pub(crate) alloc: Global,
 }
@@ -109,14 +109,15 @@ impl Draft {
         }
     }
 
-    // whether a class may still be declared: no production was read, and no command after which a declaration is late
+    // whether a class may still be declared: neither a production nor a command after which a declaration would be late
+    // was read
     pub(crate) fn may_declare(&self) -> bool
         ensures { result ≡ may_declare (view self.now) }
     {
         self.rules.len() == 0 && self.commands.may_declare()
     }
 
-    // whether a production that stands here is one of the beginning: no `make` and no `run` was read
+    // whether a production at this point is one of those at the beginning: no `make` and no `run` was read
     fn is_beginning(&self) -> bool
         ensures { result ≡ is_beginning (view self.now) }
     {
@@ -147,14 +148,14 @@ impl Draft {
         is_one_of(name, &self.vectors)
     }
 
-    // whether the class that is read would have a second vector attribute by this name
+    // whether this name would give the class that is being read a second vector attribute
     pub(crate) fn is_second(&self, name: Sym) -> bool
         ensures { result ≡ is_second name (view self.now) }
     {
         is_one_of(name, &self.vectors) && has_vector(&self.vectors, &self.attrs)
     }
 
-    // whether a class would get a second vector attribute by this name
+    // whether this name would give a class a second vector attribute
     pub(crate) fn makes_second(&self, name: Sym) -> bool
         ensures { result ≡ makes_second name (view self.now).classes }
     {
@@ -183,7 +184,7 @@ impl Draft {
         Ok(())
     }
 
-    // A name becomes one of a vector attribute.
+    // Makes a name that of a vector attribute.
     pub(crate) fn add_vector(&mut self, name: Sym) -> Result<(), Refusal>
         ensures { Becomes (view self.new) (with_vector (view self.old) name) result }
     {
@@ -200,7 +201,8 @@ impl Draft {
         Ok(())
     }
 
-    // A production of the beginning stands with the others; a later one is added where it stands among the commands.
+    // A production at the beginning is put with the others; a later one is added by a command, at its place among the
+    // commands.
     pub(crate) fn add_rule(&mut self, rule: Rule) -> Result<(), Refusal>
         ensures { Becomes (view self.new) (with_production (view self.old) rule) result }
     {
@@ -233,8 +235,8 @@ impl Draft {
         }
     }
 
-    // whether the field is the vector attribute of the class that was named. The definition is total: the class was
-    // found by its name, so it is there.
+    // whether the field is the vector attribute of the class that was named. The definition is total: in fact the class
+    // exists, because it was found by its name.
     pub(crate) fn is_vector(&self, field: usize) -> bool
         ensures { result ≡ is_vector (class_of (view self.now).classes (view self.now).class) field }
     {

@@ -1,4 +1,4 @@
-//! The elements of commands: a class with attributes and values.
+//! The elements in commands: a class with attributes and values.
 ghost use Rattle.std.specs.Prelude.{false, [], ◌∷◌, ◌++◌};
 ghost use Rattle.ops_grammar.specs.Grammar.{goes, InFixed, Shown, ClassName, Terms, Attribute};
 ghost use Rattle.ops_forms.specs.WordWalks.{Goes, GoesToTerms, Reads, IsWithin};

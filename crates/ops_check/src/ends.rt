@@ -1,4 +1,4 @@
-//! What ends while a text is read: values become a field of an element, its fields a command, and two sides a
+//! What is completed while a text is read: values become a field of an element, its fields a command, and two sides a
 //! production.
 ghost use Rattle.std.specs.Prelude.{◌≡◌, ◌+◌, ◌++◌, List, ℕ, not, count_by, SomeIff, ◌<◌, ◌^◌};
 ghost use Rattle.ops_base.specs.Valid.{cells_of, elements_in, specificity, specificity_of};
@@ -18,7 +18,7 @@ use ops_rhs::RightSide;
 use std::mem;
 
 impl Draft {
-    // the values of the vector attribute of a command end
+    // the values of the vector attribute in a command are complete
     pub(crate) fn end_constants(&mut self, field: usize) -> Result<(), Refusal>
         ensures { Becomes (view self.new) (with_several InFixed field (view self.old)) result }
     {
@@ -28,7 +28,7 @@ impl Draft {
         Ok(())
     }
 
-    // A `make` or a `ppwm` ends. Its fields take no more room than they need.
+    // A `make` or a `ppwm` is complete. Its fields take no more room than they need.
     pub(crate) fn end_fixed(&mut self) -> Result<(), Refusal>
         ensures { Becomes (view self.new) (with_element InFixed (view self.old)) result }
     {
@@ -39,7 +39,7 @@ impl Draft {
         self.add_command(fixed_command(self.element_use, self.class, puts))
     }
 
-    // A production ends, with these conditions and this right side, before the byte `past`.
+    // A production is complete, with these conditions and this right side. It ends before the byte `past`.
     pub(crate) fn end_rule(
         &mut self,
         conditions: Vec<Part>,
@@ -50,7 +50,7 @@ impl Draft {
         ensures { (further : List ℕ) → right.sight.cells ≡ cells_of conditions.items ++ further
             → Becomes (view self.new) (with_rule (right_read (record (view self.old) { conditions = conditions.items }) right.actions.items right.sight further) past) result }
     {
-        // A text of 16,777,216 bytes has too few tests for the sum to pass what a u32 holds.
+        // A text of 16,777,216 bytes has too few tests for the sum to exceed a u32.
         let Some(specificity) = specificity(&conditions) else {
             return Err(Refusal::OutOfMemory);
         };
@@ -73,7 +73,7 @@ impl Draft {
     }
 }
 
-// a `make` of this class, or a `ppwm` of the elements that have these values
+// a `make` of this class, or a `ppwm` for the elements that have these values
 fn fixed_command(element_use: ElementUse, class: usize, puts: Listed<Fixed>) -> Command
     ensures { result ≡ fixed_command (shows element_use) class puts }
 {
@@ -86,7 +86,7 @@ fn fixed_command(element_use: ElementUse, class: usize, puts: Listed<Fixed>) -> 
     }
 }
 
-// one per condition, members of groups among them, and one per test that does not bind
+// one per condition, including members of groups, and one per test that does not bind
 fn specificity(parts: &[Part]) -> Option<u32>
     ensures { SomeIff result (specificity parts.now < 2 ^ 32) (specificity parts.now) }
 {

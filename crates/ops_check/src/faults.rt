@@ -1,4 +1,4 @@
-//! The faults of a text, where they stand, and how they are written.
+//! The faults of a text, their places, and how they are written.
 ghost use Rattle.std.specs.Prelude.{◌≡◌};
 ghost use Rattle.ops_grammar.specs.Reads.{fault_of, cut_off};
 ghost use Rattle.ops_check.specs.Answered.{stop_of, placed, fault_at};
@@ -12,7 +12,7 @@ use ops_forms::refusals::Refusal;
 use ops_tokens::{BAD_BYTE, FRACTION_NUMBER, LexFault, UNCLOSED};
 use thiserror::Error;
 
-/// Why a text is no program. Lines and columns are counted from 1.
+/// Why a text is not a program. Lines and columns are counted from 1.
 #[derive(Clone, Copy, Debug, PartialEq, Eq, Error)]
 pub enum ProgramFault {
     #[error("{line}:{column}: {}", fault_text(*fault))]
@@ -33,7 +33,7 @@ impl From<OutOfMemory> for ProgramFault {
     }
 }
 
-/// Why a text is no program, by the byte at which the fault stands.
+/// Why a text is not a program, with the byte at which the fault is.
 #[derive(Clone, Copy, Debug, PartialEq, Eq)]
 pub(crate) enum TextFault {
     At { fault: Fault, at: usize },
@@ -48,7 +48,7 @@ impl From<OutOfMemory> for TextFault {
     }
 }
 
-// the fault of bytes that are no token, in a form
+// the fault of bytes in a form that are not a token
 pub(crate) fn fault_of(fault: LexFault) -> Fault
     ensures { result ≡ fault_of fault }
 {
@@ -60,7 +60,7 @@ pub(crate) fn fault_of(fault: LexFault) -> Fault
     }
 }
 
-// the fault of a form that is open where its tokens end
+// the fault of a form that is still open where its tokens end
 fn cut_off(end: FormEnd, length: usize) -> TextFault
     ensures { result ≡ placed (cut_off length (stop_of end)) }
 {
@@ -76,7 +76,7 @@ fn cut_off(end: FormEnd, length: usize) -> TextFault
     }
 }
 
-/// Where a refusal stands in a text of this length: at its word, or where the tokens of its form end.
+/// The place of a refusal in a text of this length: at its word, or where the tokens of its form end.
 pub(crate) fn fault_at(refusal: Refusal, end: FormEnd, length: usize) -> TextFault
     ensures { result ≡ fault_at refusal end length }
 {

@@ -1,4 +1,4 @@
-//! The commands that were read, which productions they add, and whether a declaration would be late after them.
+//! The commands that were read, the productions that they add, and whether a declaration after them would be late.
 ghost use Rattle.std.specs.Prelude.{◌≡◌, ◌++◌, ◌∷◌, [], OnErr, OnOk};
 ghost use Rattle.std.specs.List.{list_all};
 ghost use Rattle.ops_grammar.specs.Grammar.{precedes_classes, precedes_rules, added_by, has_title};
@@ -11,15 +11,15 @@ use ops_forms::Declared;
 use std::alloc::Global;
 use std::marker::Model;
 
-/// The commands that were read, in order. The names of the productions that they add, and what may still stand after
-/// them, are kept, and known without a look through them.
+/// The commands that were read, in order. The names of the productions that they add, and what may still come after
+/// them, are kept, so that no search through the commands is needed.
 #[derive(Drop)]
 pub(crate) struct GivenCommands {
     list: Vec<Command>,
     added: Declared<Sym>,
-    /// Whether a declaration may stand after each of them.
+    /// Whether a declaration may come after each of them.
     before_classes: bool,
-    /// Whether a production of the beginning may stand after each of them.
+    /// Whether a production of those at the beginning may come after each of them.
     before_rules: bool,
 }
 
@@ -53,7 +53,7 @@ impl GivenCommands {
         }
     }
 
-    /// Where memory runs out nothing has changed.
+    /// If memory runs out, nothing has changed.
     #[tactic(auto, using(crate::proofs::Titles::names_pushed))]
     pub(crate) fn push(&mut self, command: Command) -> Result<(), OutOfMemory>
         ensures ok { OnOk result (self.new ≡ self.old ++ command ∷ []) }
@@ -83,14 +83,14 @@ impl GivenCommands {
         self.before_classes
     }
 
-    // whether a production after each of them is one of the beginning
+    // whether a production after each of them is one of those at the beginning
     pub(crate) fn is_beginning(&self) -> bool
         ensures { result ≡ list_all precedes_rules self.now }
     {
         self.before_rules
     }
 
-    // whether one of them adds a production of that name
+    // whether one of them adds a production with that name
     pub(crate) fn adds(&self, name: Sym) -> bool
         ensures { result ≡ has_title name (added_by self.now) }
     {
@@ -114,7 +114,7 @@ fn precedes_classes(command: &Command) -> bool
     )
 }
 
-// whether a production after this command may be one of the beginning
+// whether a production after this command may be one of those at the beginning
 fn precedes_rules(command: &Command) -> bool
     ensures { result ≡ precedes_rules command.now }
 {
@@ -134,7 +134,7 @@ fn name_added(command: &Command) -> Option<Sym>
     }
 }
 
-// Where memory runs out nothing has changed.
+// If memory runs out, nothing has changed.
 fn note(names: &mut Declared<Sym>, name: Option<Sym>) -> Result<(), OutOfMemory>
     ensures ok { OnOk result (names.new ≡ noted names.old name) }
     ensures err { OnErr result (names.new ≡ names.old) }

@@ -1,7 +1,7 @@
 //! Reading a program text: what the grammar makes of its words, form by form.
 //!
-//! The comment above a reading method is the grammar of what the method reads. Where a method's name ends in `_from`,
-//! the first word is taken already and passed to it.
+//! The comment above a reading method is the grammar of what the method reads. If a method's name ends in `_from`, the
+//! first word was already taken and is passed to it.
 #![tactic(auto)]
 
 mod commands;

@@ -1,4 +1,4 @@
-//! The commands that name productions, whether they are there or not.
+//! The commands that name productions, whether these exist or not.
 ghost use Rattle.std.specs.Prelude.{◌≡◌, [], ◌∷◌, ◌++◌};
 ghost use Rattle.ops_grammar.specs.Grammar.{goes, NamedRule, NamedRules, ToPrint, ToBreak, ToExcise, ToMatch, name_command, with_named};
 ghost use Rattle.ops_forms.specs.WordWalks.{Goes, Reads, Becomes, IsWithin};
@@ -88,7 +88,7 @@ impl Draft {
         }
     }
 
-    // a command of names ends
+    // a command of names is complete
     fn end_names(&mut self, name_use: NameUse) -> Result<(), Refusal>
         ensures { Becomes (view self.new) (with_named (name_use_of name_use) (view self.old)) result }
     {

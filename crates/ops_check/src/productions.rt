@@ -50,7 +50,7 @@ impl Draft {
         Ok(rest)
     }
 
-    // first condition* --> action* ), where nothing of another left side is left
+    // first condition* --> action* ), if nothing of another left side is left
     fn sides<'a>(&mut self, words: &'a [Word]) -> Result<&'a [Word], Refusal>
         requires begun { view self.old ≡ left_begun (view self.old) }
         ensures reads { Goes (λ more ws. goes (words.now ++ more) (FirstPattern ∷ Patterns ∷ Actions ∷ ws) (view self.old)) (view self.new) result }
@@ -74,7 +74,7 @@ impl Draft {
     }
 }
 
-// the conditions of a left side, and what it leaves in sight
+// the conditions of a left side, and what is in sight after it
 fn seen_behind(alloc: Global, left: LeftSide) -> Result<(Vec<Part>, Sight), OutOfMemory>
     ensures conditions { IfOk result (λ r. r.0.items ≡ left.conditions.items) }
     ensures sight { IfOk result (λ r. r.1 ≡ record { values = left.values; elements = left.elements; cells = cells_of left.conditions.items; conditions = cells_from 0 left.conditions.items; variables = left.variables }) }

@@ -21,11 +21,11 @@ use ops_base::symbols::Names;
 use ops_forms::{Form, FormFault, FormReader, place_of, words_of};
 use std::alloc::Global;
 
-/// How many bytes a text may have. A longer text is refused without being read.
+/// How many bytes a text may have. A longer text is refused and not read.
 pub const LONGEST_TEXT: usize = 16_777_216;
 
-/// Reads a program and the names in it. The text is moved into the program, and dropped with a refusal. Takes time in
-/// proportion to the text, times the logarithm of the number of names.
+/// Reads a program and the names in it. The text is moved into the program, or dropped if it is refused. Takes time in
+/// proportion to the length of the text times the logarithm of the number of names.
 pub fn read_program(alloc: Global, text: Vec<u8>) -> Result<(Program, Names), ProgramFault>
     ensures ok { IfOk result (λ r. reads text.items ≡ Ok (record { classes = r.0.classes; rules = r.0.rules; commands = r.0.commands; names = r.1 })) }
     ensures templates { IfOk result (λ r. r.0.templates ≡ []) }
@@ -68,7 +68,7 @@ fn read_text(alloc: Global, text: &[u8]) -> Result<(Draft, Names), TextFault>
     }
 }
 
-// all forms of the text, one after another
+// reads all forms of the text, one after another
 fn read_forms(
     alloc: Global,
     text: &[u8],
@@ -92,7 +92,7 @@ fn read_forms(
     }
 }
 
-// the next form, or the fault that stands between forms
+// the next form, or the fault between forms
 fn next_form(
     reader: &FormReader,
     alloc: Global,
@@ -134,7 +134,7 @@ fn read_form(
     }
 }
 
-// The productions of a text are built from no template.
+// A text has no templates from which its productions are built.
 fn program_of(draft: Draft, text: Vec<u8>) -> Program
     requires { IsTrue (is_valid draft.classes draft.rules [] draft.commands (length text.items)) }
     ensures classes { result.classes ≡ draft.classes }

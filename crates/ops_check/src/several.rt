@@ -12,7 +12,7 @@ use ops_forms::refusals::{Refusal, fields_passed, first_of};
 use ops_grammar::Word;
 
 impl Draft {
-    // rconstant*, up to what is no more of them
+    // rconstant*, up to the first word that begins none
     #[tactic(auto, unfolding(ops_grammar::specs::Grammar::goes, ops_grammar::specs::Grammar::step, ops_grammar::specs::Grammar::ends))]
     pub(crate) fn several_constants<'a>(
         &mut self,
@@ -33,7 +33,7 @@ impl Draft {
         }
     }
 
-    // a constant, of which the first word is taken, where an element has room for one more
+    // a constant whose first word was already taken, if an element has room for one more
     fn next_constant_from<'a>(
         &mut self,
         field: usize,

@@ -63,7 +63,7 @@ impl Draft {
         }
     }
 
-    // a command of tags ends
+    // a command of tags is complete
     fn end_tags(&mut self, tag_use: TagUse) -> Result<(), Refusal>
         ensures { Becomes (view self.new) (with_tags (tag_use_of tag_use) (view self.old)) result }
     {

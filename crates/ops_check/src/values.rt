@@ -1,4 +1,4 @@
-//! Constants where a value of a command stands.
+//! Constants as values in a command.
 ghost use Rattle.ops_grammar.specs.Grammar.{goes, atom_of, value_for, Atom, ValueFor};
 ghost use Rattle.ops_forms.specs.WordWalks.{Reads, Acts, IsWithin};
 ghost use Rattle.ops_check.specs.Walks.{view, target_of};
@@ -24,7 +24,7 @@ impl Draft {
         self.value_from(target, word, rest)
     }
 
-    // rconstant, of which the first word is taken; a variable is bound nowhere in a command
+    // rconstant, whose first word was already taken; in a command no variable is bound
     pub(crate) fn value_from<'a>(
         &mut self,
         target: Target,

@@ -14,7 +14,7 @@ use Rattle.ops_forms.specs.declared.form.FormEnd.TheVariants as end
 use Rattle.ops_forms.specs.declared.form.FormFault.{FormFault}
 use Rattle.ops_forms.specs.declared.form.FormFault.TheVariants as fault
 
--- how many brackets are open after a token, where this many are open before it
+-- how many brackets are open after a token, if this many are open before it
 abbrev pub open_behind : ℕ → TokenKind → ℕ
 open_behind n kind.Left = n + 1
 open_behind n kind.Right = n - 1
@@ -24,7 +24,7 @@ abbrev pub is_last : List Token → Bool
 is_last [] = true
 is_last (t ∷ ts) = false
 
--- the last of the tokens closes the last bracket that is open, and none before it does
+-- the last of the tokens closes the last open bracket, and none before it does
 abbrev pub closes_last : ℕ → List Token → Bool
 closes_last n [] = false
 closes_last n (t ∷ ts) = if open_behind n t.kind == 0 then is_last ts else closes_last (open_behind n t.kind) ts
@@ -39,11 +39,11 @@ abbrev pub opens : List Token → Bool
 opens [] = false
 opens (t ∷ ts) = is_left t.kind
 
--- these tokens, and then those
+-- these tokens, followed by those
 abbrev pub led : List Token → Lexed → Lexed
 led tokens l = record { tokens = tokens ++ l.tokens; stop = l.stop }
 
--- no token, for this reason
+-- no tokens, for this reason
 abbrev pub none_by : Option LexFault → Lexed
 none_by stop = record { tokens = []; stop = stop }
 
@@ -52,14 +52,14 @@ abbrev pub past_last : ℕ → List Token → ℕ
 past_last from [] = from
 past_last from (t ∷ ts) = past_last t.past ts
 
--- The tokens of the text from a place on are these, and those from `past` on where they close the form; where they
--- don't, they are all.
+-- If the form is closed, the tokens of the text from a place on are these, followed by those from `past` on. If not,
+-- these are all.
 abbrev pub Ends : List ℕ → ℕ → List Token → ℕ → FormEnd → Type 0
 Ends text from tokens past end.Closed = (closes_last 0 tokens ≡ true) × (lexed_at text from ≡ led tokens (lexed_at text past))
 Ends text from tokens past (end.Fault f) = (stays_open 0 tokens ≡ true) × (lexed_at text from ≡ led tokens (none_by (Some f)))
 Ends text from tokens past end.Text = (stays_open 0 tokens ≡ true) × (lexed_at text from ≡ led tokens (none_by None))
 
--- a form stands next
+-- the next thing in the text is a form
 pub record IsForm (text : List ℕ) (from : ℕ) (form : Form) : Type 0 where
   pub opens : opens form.tokens.items ≡ true
   pub ends : Ends text from form.tokens.items form.past form.end
@@ -68,12 +68,12 @@ pub record IsForm (text : List ℕ) (from : ℕ) (form : Form) : Type 0 where
   pub within : form.past ≤ length text
   pub lie : All (λ t. LiesIn text t) form.tokens.items
 
--- a token or an atom that is no number of the language stands next, and begins no form
+-- the next thing is a token, or an atom that is not a number of the language, and it begins no form
 pub data IsStray (text : List ℕ) (from at : ℕ) : Type 0 where
   token : (t : Token) (ts : List Token) (stop : Option LexFault) → lexed_at text from ≡ record { tokens = t ∷ ts; stop = stop } → is_left t.kind ≡ false → at ≡ t.first → IsStray text from at
   atom : (f : LexFault) → lexed_at text from ≡ none_by (Some f) → is_numeric f ≡ true → at ≡ f.at → IsStray text from at
 
--- what stands next: no form, a form, or a fault
+-- what comes next: no form, a form, or a fault
 abbrev pub IsNext : List ℕ → ℕ → Result (Option Form) FormFault → Type 0
 IsNext text from (Ok None) = lexed_at text from ≡ none_by None
 IsNext text from (Ok (Some form)) = IsForm text from form

@@ -1,4 +1,4 @@
--- Where the classes stand that have an attribute.
+-- The places of the classes that have an attribute.
 use Rattle.std.specs.Prelude.{◌≡◌, ◌==◌, ◌&&◌, ℕ, ◌+◌, ◌-◌, List, [], ◌∷◌, ◌++◌, length, filter, slice_get, slice_set, Bool, true, false, not, if◌then◌else◌, Option, Some, None, Vec}
 use Rattle.std.specs.List.{list_any}
 use Rattle.std.specs.BTreeMap.{BTreeMap, get}
@@ -12,16 +12,16 @@ use Rattle.ops_grammar.specs.Grammar.{arranged}
 abbrev pub has_number : ℕ → List Sym → Bool
 has_number n attrs = list_any (λ a. a.0 == n) attrs
 
--- the places, counted from k on, of the classes of which one attribute has number n
+-- the places, counted from k on, of the classes that have an attribute with number n
 abbrev pub places_from : ℕ → ℕ → List Class → List ℕ
 places_from k n [] = []
 places_from k n (c ∷ cs) = if has_number n c.attrs then k ∷ places_from (k + 1) n cs else places_from (k + 1) n cs
 
--- the places, in order, of the classes of which one attribute has number n
+-- the places, in order, of the classes that have an attribute with number n
 abbrev pub places_with : ℕ → List Class → List ℕ
 places_with n classes = places_from 0 n classes
 
--- where nothing is noted there is no place
+-- if nothing is noted, there are no places
 abbrev pub places_of : Option (Vec ℕ Global) → List ℕ
 places_of None = []
 places_of (Some v) = v.items
@@ -30,7 +30,7 @@ places_of (Some v) = v.items
 abbrev pub noted : BTreeMap ℕ (Vec ℕ Global) → ℕ → List ℕ
 noted having n = places_of (get nat_cmp having n)
 
--- for each number the places of the classes of which one attribute has it are noted
+-- for each number, the places of the classes that have an attribute with that number are noted
 abbrev pub AreNoted : BTreeMap ℕ (Vec ℕ Global) → List Class → Type 0
 AreNoted having classes = (n : ℕ) → noted having n ≡ places_with n classes
 
@@ -38,15 +38,15 @@ abbrev pub is_this : ℕ → Option ℕ → Bool
 is_this place None = false
 is_this place (Some k) = k == place
 
--- this place stands last
+-- this place is the last
 abbrev pub is_last : ℕ → List ℕ → Bool
 is_last place places = is_this place (slice_get places (length places - 1))
 
--- the places, with this one at the end where the number is that one and it isn't there yet
+-- the places, with this one added at the end if the number is that one and it isn't the last already
 abbrev pub with_place : List ℕ → Bool → ℕ → List ℕ
 with_place places is_it place = if is_it && not (is_last place places) then places ++ place ∷ [] else places
 
--- the places, without this one where the number is that one
+-- the places, without this one if the number is that one
 abbrev pub without_place : List ℕ → Bool → ℕ → List ℕ
 without_place places is_it place = if is_it then filter (λ k. not (k == place)) places else places
 
@@ -78,7 +78,7 @@ with_last_at name place (Some c) classes = slice_set classes place (with_last na
 abbrev pub arranged_at : Sym → ℕ → List Class → List Class
 arranged_at name place classes = with_last_at name place (slice_get classes place) classes
 
--- and so at each of the places
+-- the same for each of the places
 abbrev pub arranged_at_all : Sym → List ℕ → List Class → List Class
 arranged_at_all name [] classes = classes
 arranged_at_all name (k ∷ ks) classes = arranged_at_all name ks (arranged_at name k classes)

@@ -1,4 +1,4 @@
-//! The classes that were declared, found by their names and by their attributes.
+//! The declared classes, found by their names and by their attributes.
 ghost use Rattle.std.specs.Prelude.{◌≡◌, ◌==◌, ◌++◌, ◌∷◌, ℕ, List, [], true, filter, not, length, map, position, slice_get, OnErr, OnOk};
 ghost use Rattle.std.specs.List.{list_any};
 ghost use Rattle.std.specs.Option.{option_copied};
@@ -14,13 +14,13 @@ use std::alloc::Global;
 use std::collections::BTreeMap;
 use std::marker::Model;
 
-/// The classes that were declared, in order. A class is found by its name, and the classes that have an attribute by
-/// the attribute's name, each in a time that grows with the logarithm of their number.
+/// The declared classes, in order. A class is found by its name, and the classes that have an attribute are found by
+/// the attribute's name. Each lookup takes time logarithmic in their number.
 #[derive(Drop)]
 pub struct Classes {
     alloc: Global,
     list: Declared<Class>,
-    /// The places of the classes that have an attribute, in order, under the attribute's number.
+    /// For the number of each attribute, the places of the classes that have it, in order.
     having: BTreeMap<u64, Vec<usize>>,
 }
 
@@ -36,7 +36,7 @@ impl Model for Classes {
     ghost invariant = { λ c. AreNoted c.having c.list };
 }
 
-/// Adds a place at the end, where it isn't there yet.
+/// Adds a place at the end, unless it is already the last.
 fn add(places: &mut Vec<usize>, place: usize) -> Result<(), OutOfMemory>
     ensures ok { OnOk result (places.new.items ≡ with_place places.old.items true place) }
     ensures err { OnErr result (places.new.items ≡ places.old.items) }
@@ -50,7 +50,7 @@ fn add(places: &mut Vec<usize>, place: usize) -> Result<(), OutOfMemory>
     Ok(())
 }
 
-/// Notes a place under an attribute, where it isn't the last there.
+/// Notes a place under an attribute, unless it is already the last one there.
 fn note(
     alloc: Global,
     having: &mut BTreeMap<u64, Vec<usize>>,
@@ -85,14 +85,14 @@ fn note_all(
     Ok(())
 }
 
-/// Drops a place.
+/// Removes a place.
 fn drop_place(places: &mut Vec<usize>, place: usize)
     ensures { places.new.items ≡ filter (λ k. not (k == place)) places.old.items }
 {
     places.retain(|noted| *noted != place);
 }
 
-/// Forgets a place under an attribute.
+/// Removes a place under an attribute.
 fn forget(having: &mut BTreeMap<u64, Vec<usize>>, attr: Sym, place: usize)
     ensures { (n : ℕ) → noted having.new n ≡ without_place (noted having.old n) (attr.0 == n) place }
 {
@@ -101,7 +101,7 @@ fn forget(having: &mut BTreeMap<u64, Vec<usize>>, attr: Sym, place: usize)
     }
 }
 
-/// Forgets a place under each of the attributes.
+/// Removes a place under each of the attributes.
 fn forget_all(having: &mut BTreeMap<u64, Vec<usize>>, attrs: &[Sym], place: usize)
     ensures { (n : ℕ) → noted having.new n ≡ without_place (noted having.old n) (has_number n attrs.now) place }
 {
@@ -110,7 +110,7 @@ fn forget_all(having: &mut BTreeMap<u64, Vec<usize>>, attrs: &[Sym], place: usiz
     }
 }
 
-/// Notes the place of a class under its attributes. Where memory runs out it is noted nowhere.
+/// Notes the place of a class under its attributes. If memory runs out, it is not noted under any of them.
 fn note_class(
     alloc: Global,
     having: &mut BTreeMap<u64, Vec<usize>>,
@@ -120,7 +120,7 @@ fn note_class(
     ensures ok { OnOk result ((n : ℕ) → noted having.new n ≡ with_place (noted having.old n) (has_number n (attrs_at place classes.now)) place) }
     ensures err { OnErr result ((n : ℕ) → noted having.new n ≡ without_place (noted having.old n) (has_number n (attrs_at place classes.now)) place) }
 {
-    // The contract is total: the place is that of a class.
+    // The contract is total: in fact there is always a class at the place.
     let Some(class) = classes.get(place) else {
         return Ok(());
     };
@@ -133,7 +133,8 @@ fn note_class(
     }
 }
 
-/// Whether the class at a place has a vector attribute. The definition is total: each place that is noted has a class.
+/// Whether the class at a place has a vector attribute. The definition is total: in fact every place that is noted has
+/// a class.
 fn is_vector_at(classes: &[Class], place: usize) -> bool
     ensures { result ≡ is_vector_at classes.now place }
 {
@@ -150,7 +151,7 @@ fn any_vector(classes: &[Class], places: &[usize]) -> bool
     places.iter().any(|place| is_vector_at(classes, *place))
 }
 
-/// The class at a place gets this attribute as its vector attribute.
+/// Makes this attribute the vector attribute of the class at a place.
 fn arrange(
     alloc: Global,
     classes: &mut Declared<Class>,
@@ -168,8 +169,8 @@ fn arrange(
     Ok(())
 }
 
-/// The classes at these places get this attribute as their vector attribute. Where memory runs out some of them have
-/// it.
+/// Makes this attribute the vector attribute of the classes at these places. If memory runs out, some of them have it
+/// already.
 fn arrange_all(
     alloc: Global,
     classes: &mut Declared<Class>,
@@ -196,7 +197,7 @@ impl Classes {
         }
     }
 
-    /// Where memory runs out nothing has changed.
+    /// If memory runs out, nothing has changed.
     pub fn push(&mut self, class: Class) -> Result<(), OutOfMemory>
         ensures ok { OnOk result (self.new ≡ self.old ++ class ∷ []) }
         ensures err { OnErr result (self.new ≡ self.old) }
@@ -212,7 +213,7 @@ impl Classes {
         }
     }
 
-    /// The place of the first of that name.
+    /// The place of the first class with that name.
     pub fn place_of(&self, name: Sym) -> Option<usize>
         ensures { result ≡ position (λ c. c.name.0 == name.0) self.now }
     {
@@ -243,8 +244,8 @@ impl Classes {
         self.list.into_vec()
     }
 
-    /// Whether a class that has a vector attribute has an attribute of this name. Looks only at the classes that have
-    /// it.
+    /// Whether a class that has a vector attribute also has an attribute with this name. Examines only the classes that
+    /// have one with this name.
     pub fn makes_second(&self, name: Sym) -> bool
         ensures { result ≡ makes_second name self.now }
     {
@@ -254,8 +255,8 @@ impl Classes {
         }
     }
 
-    /// The attribute of this name becomes the vector attribute of each class that has it. Touches no other class. Where
-    /// memory runs out some of these classes have it already.
+    /// Makes the attribute with this name the vector attribute of each class that has it. Touches no other class. If
+    /// memory runs out, some of these classes have it already.
     pub fn make_vector(&mut self, name: Sym) -> Result<(), OutOfMemory>
         ensures { OnOk result (self.new ≡ map (with_vector_last name) self.old) }
     {

@@ -1,4 +1,4 @@
-//! What was declared, found by its name.
+//! What was declared, found by name.
 ghost use Rattle.std.specs.Prelude.{◌≡◌, ◌==◌, ◌++◌, ◌∷◌, ℕ, List, [], length, position, slice_get, slice_index_or, slice_set, take, ◌-◌, ◌<◌, OnErr, OnOk};
 ghost use Rattle.std.specs.Option.{option_copied};
 ghost use Rattle.std.specs.BTreeMap.{get};
@@ -15,7 +15,7 @@ use std::alloc::Global;
 use std::collections::BTreeMap;
 use std::marker::Model;
 
-/// What has a name.
+/// Something that has a name.
 pub trait Titled {
     ghost title: { Self → ℕ };
 
@@ -55,7 +55,7 @@ impl Titled for Named {
     }
 }
 
-/// What was declared, in order. A name is looked up in a time that grows with the logarithm of their number.
+/// What was declared, in order. Looking up a name takes time logarithmic in the number of declared items.
 #[derive(Drop)]
 pub struct Declared<T: Titled> {
     list: Vec<T>,
@@ -70,7 +70,7 @@ impl<T: Titled> Model for Declared<T> {
     ghost invariant = { λ d. AreFirsts T.title d.firsts d.list.items };
 }
 
-/// Notes the place of a name that has none yet.
+/// Notes the place of a name, if the name has no place yet.
 fn note(firsts: &mut BTreeMap<u64, usize>, name: u64, place: usize) -> Result<(), OutOfMemory>
     ensures err { OnErr result ((n : ℕ) → get nat_cmp firsts.new n ≡ get nat_cmp firsts.old n) }
     ensures ok { OnOk result ((n : ℕ) → get nat_cmp firsts.new n ≡ or_else (get nat_cmp firsts.old n) (name == n) place) }
@@ -81,7 +81,7 @@ fn note(firsts: &mut BTreeMap<u64, usize>, name: u64, place: usize) -> Result<()
     Ok(())
 }
 
-/// Forgets the place of a name, where it is this one.
+/// Removes the place of a name, if it is this one.
 fn forget(firsts: &mut BTreeMap<u64, usize>, name: u64, place: usize)
     ensures { (n : ℕ) → get nat_cmp firsts.new n ≡ without (get nat_cmp firsts.old n) (name == n) place }
 {
@@ -109,7 +109,7 @@ impl<T: Titled + Drop> Declared<T> {
         self.firsts.clear();
     }
 
-    /// Where memory runs out nothing has changed.
+    /// If memory runs out, nothing has changed.
     pub fn push(&mut self, item: T) -> Result<(), OutOfMemory>
         ensures ok { OnOk result (self.new ≡ self.old ++ item ∷ []) }
         ensures err { OnErr result (self.new ≡ self.old) }
@@ -125,7 +125,7 @@ impl<T: Titled + Drop> Declared<T> {
         }
     }
 
-    /// Drops the last, if there is one.
+    /// Removes the last item, if there is one.
     fn pop(&mut self)
         ensures { self.new ≡ take (length self.old - 1) self.old }
     {
@@ -134,7 +134,8 @@ impl<T: Titled + Drop> Declared<T> {
         }
     }
 
-    /// Leaves this many from the front, or all where there are not more. Takes time for those that it drops.
+    /// Keeps this many items from the front, or all if there are no more than that. Takes time only for those that it
+    /// removes.
     pub fn truncate(&mut self, len: usize)
         ensures { self.new ≡ take len self.old }
     {
@@ -146,7 +147,7 @@ impl<T: Titled + Drop> Declared<T> {
         }
     }
 
-    /// The place of the first of that name.
+    /// The place of the first item with that name.
     pub fn place_of(&self, name: Sym) -> Option<usize>
         ensures { result ≡ position (λ x. T.title x == name.0) self.now }
     {
@@ -159,7 +160,7 @@ impl<T: Titled + Drop> Declared<T> {
         self.list.get(place)
     }
 
-    /// Replaces the item at a place by one of the same name.
+    /// Replaces the item at a place with one of the same name.
     pub fn set(&mut self, place: usize, item: T)
         requires within { place < length self.old }
         requires name { T.title (slice_index_or self.old place item) ≡ T.title item }
@@ -188,8 +189,8 @@ impl<T: Titled + Drop> Declared<T> {
 }
 
 impl Declared<Named> {
-    /// The first of that name has this number from here on; a name that was not there comes last. Where memory runs out
-    /// nothing has changed.
+    /// Gives the first entry with that name this number from now on. A name that is not there is added at the end. If
+    /// memory runs out, nothing has changed.
     pub fn renumber(&mut self, name: Sym, number: usize) -> Result<(), OutOfMemory>
         ensures ok { OnOk result (self.new ≡ renumbered name number self.old) }
         ensures err { OnErr result (self.new ≡ self.old) }
@@ -205,7 +206,7 @@ impl Declared<Named> {
     }
 }
 
-/// The number of the first of that name.
+/// The number of the first entry with that name.
 pub fn number_of(named: &Declared<Named>, name: Sym) -> Option<usize>
     ensures { result ≡ number_of name named.now }
 {

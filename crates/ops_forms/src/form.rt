@@ -1,4 +1,4 @@
-//! The next form of a text.
+//! Reads the next form of a text.
 ghost use Rattle.std.specs.Prelude.{ℕ, ◌≡◌, ◌≤◌, ◌<◌, ◌^◌, length, true, if◌then◌else◌, IfOk, Ok, Some};
 ghost use Rattle.ops_tokens.specs.Program.{program_table};
 ghost use Rattle.ops_tokens.specs.Tokens.{token_at, LiesIn};
@@ -13,7 +13,7 @@ use ops_tokens::{LexFault, Scanner, Token, TokenKind};
 use std::alloc::Global;
 use thiserror::Error;
 
-/// For how many tokens there is room at first: most forms have no more.
+/// How many tokens there is room for at first: most forms have no more.
 const TOKENS_AT_FIRST: usize = 32;
 
 /// How the tokens of a form end.
@@ -21,13 +21,13 @@ const TOKENS_AT_FIRST: usize = 32;
 pub enum FormEnd {
     /// The last token closes the form.
     Closed,
-    /// No token stands after them, by this fault, and the form is open.
+    /// A fault follows the tokens instead of a token, and the form is open.
     Fault(LexFault),
-    /// The text ends after them, and the form is open.
+    /// The text ends after the tokens, and the form is open.
     Text,
 }
 
-/// The tokens of a form from its bracket on, the byte past the last of them, and how they end.
+/// The tokens of a form, from its opening bracket on, the byte past the last of them, and how they end.
 #[derive(Drop)]
 pub struct Form {
     pub tokens: Vec<Token>,
@@ -35,7 +35,7 @@ pub struct Form {
     pub end: FormEnd,
 }
 
-/// Why no form stands at a place.
+/// Why there is no form at a place.
 #[derive(Clone, Copy, Debug, PartialEq, Eq, Error)]
 pub enum FormFault {
     /// A bad byte, or a bar that is not closed.
@@ -56,14 +56,14 @@ impl From<OutOfMemory> for FormFault {
     }
 }
 
-/// What reads forms. It is made once, for any number of texts.
+/// Reads forms. It is created once, for any number of texts.
 #[derive(Drop)]
 pub struct FormReader {
     scanner: Scanner,
 }
 
 impl FormReader {
-    /// Takes no memory.
+    /// Allocates nothing.
     pub fn new() -> FormReader
         ensures { result.scanner.table ≡ program_table }
     {
@@ -72,8 +72,8 @@ impl FormReader {
         }
     }
 
-    /// The next form from `from` on, or `None` where only white space and comments are left. Takes time in proportion
-    /// to the bytes that it passes, and memory in proportion to the form's tokens.
+    /// The next form from `from` on, or `None` if only white space and comments are left. Takes time in proportion to
+    /// the bytes that it passes, and memory in proportion to the number of the form's tokens.
     pub fn read_form(
         &self,
         alloc: Global,
@@ -93,7 +93,7 @@ impl FormReader {
         }
     }
 
-    /// The form that the bracket `left` begins.
+    /// The form that starts with the bracket `left`.
     fn form_of(&self, alloc: Global, text: &[u8], left: Token) -> Result<Form, OutOfMemory>
         requires opens { is_left left.kind ≡ true }
         requires some { left.first < left.past }
@@ -122,7 +122,7 @@ impl FormReader {
     }
 }
 
-/// How many brackets are open after a token, where `depth` are open before it.
+/// How many brackets are open after a token, if `depth` are open before it.
 fn depth_behind(depth: usize, kind: TokenKind) -> usize
     requires inside { 0 < depth }
     requires fits { depth < 2 ^ 63 }
@@ -135,7 +135,7 @@ fn depth_behind(depth: usize, kind: TokenKind) -> usize
     }
 }
 
-/// Why no form stands where no token does: an atom that is no number of the language is stray.
+/// Why there is no form if there is no token: an atom that is not a number of the language is stray.
 fn no_form(fault: LexFault) -> FormFault
     ensures { result ≡ if is_numeric fault then Astray fault.at else Bad fault }
 {
@@ -146,7 +146,7 @@ fn no_form(fault: LexFault) -> FormFault
     }
 }
 
-/// The next form from `from` on, or `None` where only white space and comments are left, by a reader of its own.
+/// The next form from `from` on, or `None` if only white space and comments are left. Creates a reader for this call.
 pub fn read_form(alloc: Global, text: &[u8], from: usize) -> Result<Option<Form>, FormFault>
     requires { from ≤ length text.now }
     ensures { IsNext text.now from result }

@@ -1,4 +1,4 @@
-//! What a word may be where something is wanted.
+//! What a word may be, depending on what is expected.
 ghost use Rattle.std.specs.Prelude.{◌≡◌, ◌||◌};
 ghost use Rattle.ops_grammar.specs.Grammar.{is_left, is_right, is_left_brace, is_right_brace, is_caret, is_name, is_variable, is_arrow, is_literal, is_minus, begins_group, opens_choice, closes_choice, is_inf, is_compute, operation_of, pred_of, constant_of, atom_of, value_of, natural_of, small_of, count_of, strategy_of, is_all, level_of, undone_of};
 
@@ -120,7 +120,7 @@ pub fn is_compute(keyword: Keyword) -> bool
     matches!(keyword, Keyword::Compute)
 }
 
-/// The operation that a word of an expression stands for.
+/// The operation that a word of an expression denotes.
 pub fn operation_of(keyword: Keyword) -> Option<Op>
     ensures { result ≡ operation_of keyword }
 {
@@ -134,7 +134,7 @@ pub fn operation_of(keyword: Keyword) -> Option<Op>
     }
 }
 
-/// The predicate that a word before the operand of a test stands for.
+/// The predicate that a word before the operand of a test denotes.
 pub fn pred_of(keyword: Keyword) -> Option<Pred>
     ensures { result ≡ pred_of keyword }
 {
@@ -150,7 +150,7 @@ pub fn pred_of(keyword: Keyword) -> Option<Pred>
     }
 }
 
-/// The constant that a name or a whole number is.
+/// The constant that a name or a whole number denotes.
 pub fn constant_of(kind: TokenKind, name: Sym) -> Option<Value>
     ensures { result ≡ constant_of kind name }
 {
@@ -161,7 +161,7 @@ pub fn constant_of(kind: TokenKind, name: Sym) -> Option<Value>
     }
 }
 
-/// The constant that an atom is, whatever it spells.
+/// The constant that an atom denotes, whatever its spelling.
 pub fn atom_of(kind: TokenKind, name: Sym) -> Option<Value>
     ensures { result ≡ atom_of kind name }
 {
@@ -174,7 +174,7 @@ pub fn atom_of(kind: TokenKind, name: Sym) -> Option<Value>
     }
 }
 
-/// The constant that a value is: an atom, but a variable and `//`.
+/// The constant that a value denotes: any atom except a variable and `//`.
 pub fn value_of(kind: TokenKind, name: Sym) -> Option<Value>
     ensures { result ≡ value_of kind name }
 {
@@ -185,7 +185,7 @@ pub fn value_of(kind: TokenKind, name: Sym) -> Option<Value>
     }
 }
 
-/// The number that a whole number from 1 on is.
+/// A whole number, if it is at least 1.
 pub fn natural_of(number: i128) -> Option<u128>
     ensures { result ≡ natural_of number }
 {
@@ -195,7 +195,7 @@ pub fn natural_of(number: i128) -> Option<u128>
     }
 }
 
-/// The number that a whole number from 1 to 1,024 is.
+/// The number of a whole-number word, if it is from 1 to 1,024.
 pub fn small_of(kind: TokenKind) -> Option<u16>
     ensures { result ≡ small_of kind }
 {
@@ -208,7 +208,7 @@ pub fn small_of(kind: TokenKind) -> Option<u16>
     }
 }
 
-/// The number that a whole number from 1 on is, as a count of firings or a tag.
+/// The number of a whole-number word, if it is at least 1, as a count of firings or a tag.
 pub fn count_of(kind: TokenKind) -> Option<u64>
     ensures { result ≡ count_of kind }
 {
@@ -221,7 +221,7 @@ pub fn count_of(kind: TokenKind) -> Option<u64>
     }
 }
 
-/// The strategy that a word names.
+/// The strategy that a word names, if it names one.
 pub fn strategy_of(keyword: Keyword) -> Option<Strategy>
     ensures { result ≡ strategy_of keyword }
 {
@@ -232,14 +232,14 @@ pub fn strategy_of(keyword: Keyword) -> Option<Strategy>
     }
 }
 
-/// Whether a word is `*`, for all elements.
+/// Whether a word is `*`, which means all elements.
 pub fn is_all(keyword: Keyword) -> bool
     ensures { result ≡ is_all keyword }
 {
     matches!(keyword, Keyword::Times)
 }
 
-/// The trace level that a whole number from 0 to 2 is.
+/// The trace level of a whole-number word, if it is from 0 to 2.
 pub fn level_of(kind: TokenKind) -> Option<u8>
     ensures { result ≡ level_of kind }
 {
@@ -252,7 +252,7 @@ pub fn level_of(kind: TokenKind) -> Option<u8>
     }
 }
 
-/// How many firings `back` undoes, which a whole number from 1 to 32 is.
+/// How many firings `back` undoes: the number of a whole-number word, if it is from 1 to 32.
 pub fn undone_of(kind: TokenKind) -> Option<u8>
     ensures { result ≡ undone_of kind }
 {

@@ -1,5 +1,5 @@
-//! The forms of a program text: its tokens from bracket to bracket, their words, and what stands in sight while they
-//! are read.
+//! The forms of a program text: the tokens of each from bracket to bracket, their words, and what is in sight while
+//! they are read.
 #![tactic(auto)]
 
 pub mod classes;

@@ -2,14 +2,14 @@
 ghost use Rattle.std.specs.Prelude.{◌≡◌, ◌≤◌, ◌+◌, ◌==◌, not, length, count_by, take_while, reverse};
 ghost use Rattle.ops_grammar.specs.Places.{line_of, column_of};
 
-/// Where a byte of a text stands: its line and its column, counted from 1.
+/// The position of a byte in a text: its line and its column, counted from 1.
 #[derive(Clone, Copy, Debug, PartialEq, Eq)]
 pub struct Place {
     pub line: u64,
     pub column: u64,
 }
 
-/// The place of a byte, or of the text's end. Takes time in proportion to what stands before it.
+/// The place of a byte, or of the text's end. Takes time in proportion to the number of bytes before it.
 pub fn place_of(text: &[u8], at: usize) -> Place
     requires { at ≤ length text.now }
     ensures line { result.line ≡ line_of text.now at }

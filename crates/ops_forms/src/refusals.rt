@@ -1,4 +1,4 @@
-//! Why words are not read.
+//! Why words are refused.
 ghost use Rattle.std.specs.Prelude.{◌≡◌, ◌∷◌, Err, IfOk, Some, true};
 ghost use Rattle.ops_grammar.specs.Grammar.{is_right};
 ghost use Rattle.ops_grammar.specs.declared.words.Word.{Word};
@@ -13,7 +13,8 @@ use ops_grammar::Word;
 use std::alloc::{AllocError, AllocFailed};
 use thiserror::Error;
 
-/// The fault of the grammar and the word that stands where another is wanted, or `None` where the words end.
+/// The fault of the grammar, and the word at which it was found where another was expected, or `None` if the words end
+/// there.
 #[derive(Clone, Copy, Debug, PartialEq, Eq, Error)]
 pub enum Refusal {
     #[error("{fault:?}")]
@@ -46,7 +47,7 @@ impl<T: Drop> From<AllocFailed<T>> for Refusal {
     }
 }
 
-/// Why a side of a production is not read: the fault, and the byte at which it stands.
+/// Why a side of a production is refused: the fault, and the byte at which it is.
 #[derive(Clone, Copy, Debug, PartialEq, Eq, Error)]
 pub enum ReadFault {
     #[error("byte {at}: {fault:?}")]
@@ -72,7 +73,7 @@ pub fn refused<T>(fault: Fault, word: Word) -> Result<T, Refusal>
     })
 }
 
-/// Refuses a word that would take the 128th field of an element, its class counted.
+/// Refuses a word that would use the 128th field of an element, if its class is counted as a field.
 pub fn fields_passed<T>(word: Word) -> Result<T, Refusal>
     ensures { result ≡ Err (Refusal.At (Fault.LimitPassed Limit.Fields) (Some word)) }
 {
@@ -84,7 +85,7 @@ pub fn fields_passed<T>(word: Word) -> Result<T, Refusal>
     )
 }
 
-/// Refuses a word that would begin a condition more than a production may have.
+/// Refuses a word that would begin one condition more than a production may have.
 pub fn conditions_passed<T>(word: Word) -> Result<T, Refusal>
     ensures { result ≡ Err (Refusal.At (Fault.LimitPassed Limit.Conditions) (Some word)) }
 {

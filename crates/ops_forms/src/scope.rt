@@ -10,8 +10,7 @@ use ops_base::symbols::Names;
 use ops_grammar::Named;
 use std::alloc::Global;
 
-/// The text and its names, the classes that were declared, and what is in sight while the two sides of a production are
-/// read.
+/// The text and its names, the declared classes, and what is in sight while the two sides of a production are read.
 #[derive(Drop)]
 pub struct Scope {
     pub text: Vec<u8>,
@@ -25,7 +24,7 @@ pub struct Scope {
     pub cells: Listed<usize>,
     /// The cell of each part of the left side, `None` for a negated condition or a group.
     pub conditions: Listed<Option<usize>>,
-    /// How many numbers of variables were given.
+    /// How many variables were given a number.
     pub variables: usize,
 }
 

@@ -1,4 +1,4 @@
-//! Vector attributes: each stands last in its class.
+//! Vector attributes: each is the last attribute of its class.
 ghost use Rattle.std.specs.Prelude.{◌≡◌, ◌++◌, not, filter, IfOk, OnOk};
 ghost use Rattle.ops_grammar.specs.Grammar.{is_one_of, arranged, has_vector};
 ghost use Rattle.ops_forms.specs.Noted.{with_last};
@@ -24,7 +24,7 @@ pub fn has_vector(vectors: &Declared<Sym>, attrs: &[Sym]) -> bool
     attrs.iter().any(|attr| is_one_of(*attr, vectors))
 }
 
-/// The attributes in their order, the vector attributes after the others.
+/// The attributes in their order, except that the vector attributes come after the others.
 pub fn arranged(
     alloc: Global,
     vectors: &Declared<Sym>,
@@ -37,7 +37,7 @@ pub fn arranged(
     Ok(all)
 }
 
-/// The attributes that are no vector attributes.
+/// The attributes that are not vector attributes.
 pub fn scalars_of(
     alloc: Global,
     vectors: &Declared<Sym>,

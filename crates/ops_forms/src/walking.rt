@@ -1,4 +1,4 @@
-//! Steps of a walk by places in words.
+//! Steps of a walk over words, by place.
 ghost use Rattle.std.specs.Prelude.{◌≡◌, ◌+◌, IfOk, Some, slice_get, true};
 ghost use Rattle.ops_grammar.specs.Grammar.{is_right};
 ghost use Rattle.ops_grammar.specs.declared.words.Word.{Word};
@@ -39,7 +39,7 @@ pub fn closing(words: &[Word], at: usize) -> Result<usize, Refusal>
     Ok(rest)
 }
 
-/// A refusal stands at the first byte of its word, and one without a word at the byte past the last token.
+/// A refusal is placed at the first byte of its word, and one without a word at the byte past the last token.
 pub fn fault_of(refusal: Refusal, tokens: &[Token]) -> ReadFault
     ensures { result ≡ fault_of refusal (past_last 0 tokens.now) }
 {
@@ -59,7 +59,7 @@ pub fn fault_of(refusal: Refusal, tokens: &[Token]) -> ReadFault
     }
 }
 
-// The byte past the last token. The definition is total: a form has a token, its bracket.
+// The byte past the last token. The definition is total: in fact a form always has a token, its opening bracket.
 fn past_of(tokens: &[Token]) -> usize
     ensures { result ≡ past_last 0 tokens.now }
 {

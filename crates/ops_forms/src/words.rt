@@ -10,8 +10,8 @@ use ops_grammar::{Keyword, Word};
 use ops_tokens::{Token, TokenKind, spelling_of};
 use std::alloc::Global;
 
-/// The words of tokens of a text, whose names are held from then on. Where memory runs out, those of the first tokens
-/// may be held already. Takes time in proportion to the tokens' bytes.
+/// The words of the tokens of a text. Their names are held from then on. If memory runs out, the names of the first
+/// tokens may be held already. Takes time in proportion to the number of bytes of the tokens.
 pub fn words_of(
     alloc: Global,
     names: &mut Names,
@@ -34,7 +34,7 @@ pub fn words_of(
     }
 }
 
-// the word before these tokens
+// the word, if these tokens follow it
 fn word_before(word: Word, rest: &[Token]) -> Word
     ensures { result ≡ word_before word rest.now }
 {
@@ -239,7 +239,7 @@ fn keyword_of_command(spelling: &[u8]) -> Keyword
     }
 }
 
-// whether a spelling is that of a word
+// whether a spelling is the one of this word
 fn is(spelling: &[u8], word: &[u8]) -> bool
     ensures { result ≡ bytes_eq spelling.now word.now }
 {

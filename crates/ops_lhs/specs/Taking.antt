@@ -1,4 +1,4 @@
--- How the walk over the words of a left side goes along with the definition's, by places in the words.
+-- How the walk over the words of a left side follows the definition's walk, by places in the words.
 use Rattle.std.specs.Prelude.{◌≡◌, ℕ, Bool, ◌||◌, ◌<◌, is_some, List, [], ◌∷◌, ◌++◌, take, drop, Result, Ok, Err}
 use Rattle.ops_base.specs.declared.elements.Class.{Class}
 use Rattle.ops_grammar.specs.declared.words.Word.{Word}
@@ -7,7 +7,7 @@ use Rattle.ops_forms.specs.declared.refusals.Refusal.{Refusal}
 use Rattle.ops_forms.specs.PlaceWalks.{Way, Fails, GoesOn, GoesAmong, GoesToAmong, CutGoesOn, CutGoesAmong, PeekGoesToAmong, Onward, CutWay, goes_onward}
 use Rattle.ops_lhs.specs.declared.left.Left.{Left}
 
--- what is read so far, where all else that was read is that of a state
+-- what was read so far, if everything else that was read is that of a state
 abbrev pub seen : State → Left → State
 seen s l =
     record s {
@@ -27,24 +27,24 @@ seen s l =
       conditions = l.conditions.items;
     }
 
--- what is read so far, where nothing else was read
+-- what was read so far, if nothing else was read
 abbrev pub view : Left → State
 view l = seen nothing_read l
 
--- a call read what was wanted, in the words from a place on
+-- the call read what was expected, in the words from a place on
 abbrev pub Reads : Wanted → Left → Left → List Word → ℕ → Result ℕ Refusal → Type 0
 Reads w old new words at result = GoesOn (λ more ws s. goes (drop at words ++ more) (w ∷ ws) (seen s old)) words (λ s. seen s new) result
 
--- a call did this with a word that was taken, and read on in the words from a place on
+-- the call did this with a word that was already taken, and read on in the words from a place on
 abbrev pub Acts : (List Wanted → State → Step) → Word → Left → Left → List Word → ℕ → Result ℕ Refusal → Type 0
 Acts does w old new words at result = GoesOn (λ more ws s. after (goes (drop at words ++ more)) w (does ws (seen s old))) words (λ s. seen s new) result
 
--- the same, where more of a pattern is wanted afterwards
+-- the same, if more of a pattern is expected afterwards
 abbrev pub GoesToTerms : Way → List Word → Left → Result ℕ Refusal → Type 0
 GoesToTerms from words new (Ok next) = (more : List Word) (ws : List Wanted) (s : State) → from more ws s ≡ goes (drop next words ++ more) (Terms InPattern ∷ ws) (seen s new)
 GoesToTerms from words new (Err e) = Fails from e
 
--- ---- where the words are cut
+-- ---- if the words are cut off
 
 abbrev pub CutReads : Wanted → Left → Left → List Word → ℕ → Result ℕ Refusal → Type 0
 CutReads w old new words at result = CutGoesOn (λ cut on ws s. goes_onward on (drop at cut) (w ∷ ws) (seen s old)) words (λ s. seen s new) result
@@ -56,7 +56,7 @@ abbrev pub PeekGoesToTerms : CutWay → List Word → Left → Result ℕ Refusa
 PeekGoesToTerms from words new (Ok next) = (n : ℕ) → next < n → (on : Onward) (ws : List Wanted) (s : State) → from (take n words) on ws s ≡ goes_onward on (drop next (take n words)) (Terms InPattern ∷ ws) (seen s new)
 PeekGoesToTerms from words new (Err e) = Unit {0}
 
--- ---- where these classes are declared
+-- ---- if these classes are declared
 
 -- these classes are declared in the state
 abbrev pub Among : List Class → State → Type 0

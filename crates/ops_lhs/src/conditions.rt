@@ -1,4 +1,4 @@
-//! Conditions up to the arrow.
+//! Reads conditions up to the arrow.
 ghost use Rattle.std.specs.Prelude.{◌∷◌, ◌++◌, ◌<◌, drop, IfOk};
 ghost use Rattle.ops_grammar.specs.Grammar.{goes, more_patterns, left_ended, right_begun, FirstPattern, Patterns};
 ghost use Rattle.ops_forms.specs.PlaceWalks.{GoesAmong, IsFrom, IsBehind, CutGoesAmong, goes_onward};
@@ -72,8 +72,8 @@ impl Left {
         }
     }
 
-    // positive | - pattern | - { pattern pattern pattern* }, of which the first word is taken; where there is room for one
-    // more, but a group's members ask for it themselves
+    // positive | - pattern | - { pattern pattern pattern* }, whose first word was already taken; if there is room for
+    // one more, which the members of a group check for themselves
     fn condition_from(
         &mut self,
         classes: &Classes,

@@ -42,7 +42,7 @@ impl Left {
         self.name_and_brace(words, rest)
     }
 
-    // VARIABLE pattern }, of which the first word is taken
+    // VARIABLE pattern }, whose first word was already taken
     fn name_then_pattern_from(
         &mut self,
         classes: &Classes,
@@ -85,7 +85,7 @@ impl Left {
         self.closing_brace(words, rest)
     }
 
-    // VARIABLE, which is the word, and was not bound in this left side
+    // VARIABLE, which is the word, and was not bound before in this left side
     fn element_name(&mut self, word: Word, words: &[Word], at: usize) -> Result<usize, Refusal>
         ensures acts { Acts (λ ws s. element_name word ws s) word self.old self.new words.now at result }
         ensures cut { CutActs (λ ws s. element_name word ws s) word self.old self.new words.now at result }

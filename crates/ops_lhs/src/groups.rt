@@ -1,4 +1,4 @@
-//! Groups: conditions that no list of elements meets together.
+//! Groups: negated conjunctions, i.e. conditions that no list of elements may meet together.
 ghost use Rattle.std.specs.Prelude.{◌≡◌, ◌∷◌, ◌++◌, ◌&&◌, drop, nat_le};
 ghost use Rattle.ops_grammar.specs.Grammar.{goes, is_right_brace, member, GroupBrace, Members};
 ghost use Rattle.ops_forms.specs.PlaceWalks.{IsFrom};
@@ -54,7 +54,7 @@ impl Left {
         }
     }
 
-    // pattern, of which the first word is taken, where there is room for one more member
+    // pattern, whose first word was already taken, if there is room for one more member
     fn member_from(
         &mut self,
         classes: &Classes,

@@ -1,4 +1,4 @@
-//! What was read so far of a left side, and how it grows.
+//! What was read of a left side so far, and how it grows.
 ghost use Rattle.std.specs.Prelude.{◌≡◌, ◌+◌, length, nat_lt};
 ghost use Rattle.ops_base.specs.Valid.{cells_of, elements_of, most_conditions};
 ghost use Rattle.ops_grammar.specs.Grammar.{nothing_read, left_begun, with_test, with_bound, with_choice, with_member, with_one, with_condition, group_begun, with_group, with_bound_element};
@@ -12,8 +12,8 @@ use ops_forms::{Declared, Named, Refusal};
 use std::alloc::Global;
 use std::mem;
 
-/// What was read so far of a left side. Its fields are those of the state of the definition's walk (`State` in the
-/// specs/Grammar.antt of ops_grammar), which hands values from one method to the next.
+/// What was read of a left side so far. Its fields are those of the state of the definition's walk (`State` in
+/// specs/Grammar.antt of ops_grammar). They carry values from one method to the next.
 #[derive(Drop)]
 pub struct Left {
     /// The class of the condition that is being read.
@@ -36,7 +36,7 @@ pub struct Left {
     pub around: usize,
     /// Whether a group is being read.
     pub grouped: bool,
-    /// The members of that group that were read.
+    /// The members of that group that were read so far.
     pub members: Vec<Condition>,
     pub conditions: Vec<Part>,
     pub alloc: Global,
@@ -81,7 +81,7 @@ impl Left {
         Ok(())
     }
 
-    // the first place of a variable binds it
+    // the first occurrence of a variable binds it
     pub fn add_bound(&mut self, field: usize, name: Sym) -> Result<(), Refusal>
         ensures { Becomes (view self.new) (with_bound (view self.old) field name) result }
     {
@@ -91,7 +91,7 @@ impl Left {
         self.add_test(field, Pred::Eq, Operand::Variable(number), true)
     }
 
-    // a disjunction ends
+    // a disjunction is complete
     pub fn end_choice(&mut self, field: usize) -> Result<(), Refusal>
         ensures { Becomes (view self.new) (with_choice (view self.old) field) result }
     {
@@ -100,7 +100,7 @@ impl Left {
         self.add_test(field, Pred::Eq, Operand::OneOf(values), false)
     }
 
-    // a condition ends, which is a member of a group or a part of its own
+    // a condition is complete, which is a member of a group or a part of its own
     pub fn end_condition(&mut self) -> Result<(), Refusal>
         ensures { Becomes (view self.new) (with_condition (view self.old)) result }
     {
@@ -123,7 +123,7 @@ impl Left {
         Ok(())
     }
 
-    // The variables of a negated condition are out of sight after it.
+    // After a negated condition, its variables are out of sight.
     fn end_one(&mut self) -> Result<(), Refusal>
         ensures { Becomes (view self.new) (with_one (view self.old)) result }
     {
@@ -150,7 +150,7 @@ impl Left {
         self.tests.clear();
     }
 
-    // The variables of a group are out of sight after it.
+    // After a group, its variables are out of sight.
     pub fn end_group(&mut self) -> Result<(), Refusal>
         ensures { Becomes (view self.new) (with_group (view self.old)) result }
     {
@@ -163,8 +163,8 @@ impl Left {
         Ok(())
     }
 
-    // The element variable names the cell of the condition that was read last. The definition is total: that condition
-    // is positive, so there is a cell.
+    // Makes the element variable name the cell of the condition that was read last. The definition is total: in fact
+    // that condition is positive, so it has a cell.
     pub fn bind_element(&mut self) -> Result<(), Refusal>
         ensures { Becomes (view self.new) (with_bound_element (view self.old)) result }
     {
@@ -192,11 +192,11 @@ fn count_cells(parts: &[Part]) -> usize
     cells
 }
 
-/// How many conditions a production may have, members of groups counted.
+/// How many conditions a production may have, including the members of groups.
 const MOST_CONDITIONS: usize = 256;
 
 /// Whether there is room for one more condition after these parts and this many members of the next one. Takes time in
-/// proportion to the parts.
+/// proportion to the number of parts.
 pub fn has_room(parts: &[Part], members: usize) -> bool
     ensures { result ≡ nat_lt (length (elements_of parts.now) + members) most_conditions }
 {

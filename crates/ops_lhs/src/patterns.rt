@@ -97,7 +97,7 @@ impl Left {
         if !is_name(word.kind) {
             return refused(Fault::BadForm, word);
         }
-        // The definition is total: the class was found by its name, so it is there.
+        // The definition is total: in fact the class exists, because it was found by its name.
         let Some(class) = classes.get(self.class) else {
             return refused(Fault::UnknownAttribute, word);
         };

@@ -1,4 +1,4 @@
-//! Left sides, from their words and from their tokens.
+//! Reads left sides from their words and from their tokens.
 ghost use Rattle.std.specs.Prelude.{◌≡◌, ◌≤◌, length, All, IfOk, IfErr};
 ghost use Rattle.ops_tokens.specs.Tokens.{LiesIn};
 ghost use Rattle.ops_lhs.specs.LeftSides.{ReadsLeft, RefusesLeft, AreBehindArrow, IsLeftSide, IsRefused};
@@ -14,8 +14,8 @@ use ops_grammar::Word;
 use ops_tokens::Token;
 use std::alloc::Global;
 
-/// Reads the left side with which the words begin, where these classes are declared, and answers the words after its
-/// arrow. Takes time in proportion to the words that it reads, times the logarithm of the number of names.
+/// Reads the left side at the beginning of the words, given the declared classes, and returns the words after its
+/// arrow. Takes time in proportion to the number of words that it reads times the logarithm of the number of names.
 pub fn left_side<'a>(
     alloc: Global,
     classes: &Classes,
@@ -36,10 +36,9 @@ pub fn left_side<'a>(
     Ok((side, &words[next..]))
 }
 
-/// Reads the left side of a production, which begins at the token `from`, after the production's name. Answers its
-/// conditions and the place of its arrow, and leaves in the scope what they leave in sight; the names of all tokens
-/// from there on are held. After a refusal the scope holds its text and classes, and else nothing that could be relied
-/// on.
+/// Reads the left side of a production, which begins at the token `from`, after the production's name. Returns its
+/// conditions and the place of its arrow, and leaves in the scope what they leave in sight. The names of all tokens
+/// from `from` on are held. After a refusal, the scope holds its text and classes; nothing else in it can be relied on.
 pub fn read_lhs(
     alloc: Global,
     scope: &mut Scope,

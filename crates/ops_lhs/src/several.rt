@@ -35,7 +35,7 @@ impl Left {
         }
     }
 
-    // a place, of which the first word is taken, where an element has room for its field
+    // a place, whose first word was already taken, if an element has room for its field
     fn next_place_from(
         &mut self,
         field: usize,

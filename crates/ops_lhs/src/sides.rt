@@ -1,9 +1,9 @@
-//! What a left side is read as.
+//! The result of reading a left side.
 
 use ops_base::conditions::Part;
 use ops_forms::{Declared, Named};
 
-/// The conditions and groups of a production, and what they leave in sight of its right side.
+/// The conditions and groups of a production, and what they leave in sight for its right side.
 #[derive(Drop)]
 pub struct LeftSide {
     pub conditions: Vec<Part>,
@@ -11,6 +11,6 @@ pub struct LeftSide {
     pub values: Declared<Named>,
     /// The element variables, with their cells.
     pub elements: Declared<Named>,
-    /// How many numbers of variables were given, those of negated conditions and groups with them.
+    /// How many variables were given a number, including those of negated conditions and groups.
     pub variables: usize,
 }

@@ -10,7 +10,7 @@ use ops_base::memory::OutOfMemory;
 use ops_forms::Scope;
 use std::alloc::Global;
 
-// Leaves in the scope what the left side leaves in sight, and nothing of an earlier one, and answers the conditions.
+// Puts into the scope what the left side leaves in sight, and nothing of an earlier one, and returns the conditions.
 pub fn show(alloc: Global, scope: &mut Scope, side: LeftSide) -> Result<Vec<Part>, OutOfMemory>
     ensures conditions { IfOk result (λ conditions. conditions.items ≡ side.conditions.items) }
     ensures ok { OnOk result (scope.new ≡ record scope.old { values = side.values; elements = side.elements; variables = side.variables; cells = cells_of side.conditions.items; conditions = cells_from 0 side.conditions.items }) }
@@ -26,7 +26,7 @@ pub fn show(alloc: Global, scope: &mut Scope, side: LeftSide) -> Result<Vec<Part
     Ok(side.conditions)
 }
 
-/// The class of each cell. Takes time in proportion to the parts, as `cells_of_conditions` does.
+/// The class of each cell. Takes time in proportion to the number of parts, as `cells_of_conditions` does.
 pub fn classes_of_cells(alloc: Global, parts: &[Part]) -> Result<Listed<usize>, OutOfMemory>
     ensures { IfOk result (λ cells. cells ≡ cells_of parts.now) }
 {

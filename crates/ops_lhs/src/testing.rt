@@ -28,7 +28,7 @@ impl Left {
         self.place_from(field, word, words, rest)
     }
 
-    // test | { test* }, of which the first word is taken
+    // test | { test* }, whose first word was already taken
     pub fn place_from(
         &mut self,
         field: usize,
@@ -63,7 +63,7 @@ impl Left {
         }
     }
 
-    // constant | VARIABLE | PRED constant | PRED VARIABLE | << atom* >>, of which the first word is taken
+    // constant | VARIABLE | PRED constant | PRED VARIABLE | << atom* >>, whose first word was already taken
     fn test_from(
         &mut self,
         field: usize,
@@ -102,7 +102,7 @@ impl Left {
         self.operand_from(field, pred, word, words, rest)
     }
 
-    // constant | VARIABLE, of which the first word is taken
+    // constant | VARIABLE, whose first word was already taken
     fn operand_from(
         &mut self,
         field: usize,
@@ -149,7 +149,7 @@ impl Left {
         Ok(rest)
     }
 
-    // the first place of a variable binds it, by an equality
+    // the first occurrence of a variable binds it, by an equality
     fn variable(
         &mut self,
         field: usize,

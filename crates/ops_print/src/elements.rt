@@ -1,4 +1,4 @@
-//! Elements of working memory, as everything but `write` shows them.
+//! Elements of working memory, as everything except `write` shows them.
 ghost use Rattle.std.specs.Prelude.{◌≡◌, ◌+◌, ◌^◌, ◌<◌, ◌∷◌, ◌++◌, IsTrue, OnErr, false, codes, drop, length};
 ghost use Rattle.ops_base.specs.Values.{are_same, nil};
 ghost use Rattle.ops_base.specs.WorkingMemory.{field_of};
@@ -71,7 +71,7 @@ fn put_shown_values<K: Sink>(
     Ok(())
 }
 
-/// Puts an attribute with its values, and nothing where it has none.
+/// Puts an attribute with its values, or nothing if it has none.
 fn put_attribute<K: Sink>(
     out: &mut Out,
     sink: &mut K,
@@ -98,7 +98,7 @@ fn is_nil(value: &Value) -> bool
     *value == NOTHING
 }
 
-/// The value of a scalar attribute, but `nil`.
+/// The value of a scalar attribute, or nothing if it is `nil`.
 fn value_shown(element: &Element, field: usize) -> &[Value]
     ensures { result.now ≡ value_shown (field_of element.now field) }
 {
@@ -108,7 +108,7 @@ fn value_shown(element: &Element, field: usize) -> &[Value]
     }
 }
 
-/// What is shown of the attribute with this number.
+/// The values that are shown for the attribute with this number.
 fn values_shown<'e>(class: &Class, element: &'e Element, field: usize) -> &'e [Value]
     requires { field < length class.now.attrs }
     ensures { result.now ≡ values_shown class.now element.now field }
@@ -164,7 +164,7 @@ fn put_of_class<K: Sink>(
     out.put(sink, b")")
 }
 
-/// Puts an element: its class, and each attribute that has a value or more. Takes no memory.
+/// Puts an element: its class, and each attribute that has at least one value. Allocates nothing.
 pub fn put_element<K: Sink>(
     out: &mut Out,
     sink: &mut K,
@@ -184,7 +184,7 @@ pub fn put_element<K: Sink>(
     }
 }
 
-/// Puts a line of its own: these bytes, the tag of an element and the element. Takes no memory.
+/// Puts a line of its own: these bytes, the tag of an element and the element. Allocates nothing.
 pub fn put_element_line<K: Sink>(
     out: &mut Out,
     sink: &mut K,
@@ -206,7 +206,7 @@ pub fn put_element_line<K: Sink>(
     out.put(sink, b"\n")
 }
 
-/// Puts the line that tells that an element was made. Takes no memory.
+/// Puts the line which reports that an element was made. Allocates nothing.
 pub fn put_made_line<K: Sink>(
     out: &mut Out,
     sink: &mut K,
@@ -224,7 +224,7 @@ pub fn put_made_line<K: Sink>(
     put_element_line(out, sink, names, program, b"=>WM: ", item)
 }
 
-/// Puts the line that tells that an element was removed. Takes no memory.
+/// Puts the line which reports that an element was removed. Allocates nothing.
 pub fn put_removed_line<K: Sink>(
     out: &mut Out,
     sink: &mut K,

@@ -1,4 +1,4 @@
-//! The line that tells how a run ended.
+//! The line which reports how a run ended.
 ghost use Rattle.std.specs.Prelude.{◌≡◌, ◌^◌, ◌<◌, [], ◌∷◌, ◌++◌, IsTrue, OnErr, false, codes, decimal};
 ghost use Rattle.ops_io.specs.Ports.{port, PutsBytes};
 ghost use Rattle.ops_meaning.specs.Layout.{act_fault_text, last_line, line_at, symbol_text};
@@ -24,7 +24,7 @@ fn act_fault_end(kind: ActKind) -> &'static [u8]
     }
 }
 
-/// Puts the line that tells what an action of the production of this name could not do.
+/// Puts the line which reports what an action of the production with this name could not do.
 fn put_act_fault<K: Sink>(
     out: &mut Out,
     sink: &mut K,
@@ -49,7 +49,7 @@ fn put_act_fault<K: Sink>(
     out.put(sink, act_fault_end(kind))
 }
 
-/// Puts the line that tells that this many firings were reached.
+/// Puts the line which reports that this many firings were reached.
 fn put_limit<K: Sink>(out: &mut Out, sink: &mut K, firings: u64) -> Result<(), WriteFailed>
     requires whole { IsTrue out.old.whole }
     requires faults { K.faults sink.old < 2 ^ 63 }
@@ -62,7 +62,7 @@ fn put_limit<K: Sink>(out: &mut Out, sink: &mut K, firings: u64) -> Result<(), W
     put_numbered(out, sink, b"ops: limit of ", firings, b" firings reached\n")
 }
 
-/// Puts the line that tells that the input failed.
+/// Puts the line which reports that the input failed.
 fn put_unread<K: Sink>(out: &mut Out, sink: &mut K) -> Result<(), WriteFailed>
     requires whole { IsTrue out.old.whole }
     requires faults { K.faults sink.old < 2 ^ 63 }
@@ -73,7 +73,7 @@ fn put_unread<K: Sink>(out: &mut Out, sink: &mut K) -> Result<(), WriteFailed>
     put_line(out, sink, b"ops: cannot read the input")
 }
 
-/// Puts the line that tells an ending, from its fresh line to its LF, and nothing for an ending that has none.
+/// Puts the line for an ending, from its fresh line to its LF, or nothing if the ending has no line.
 pub fn put_fault<K: Sink>(
     out: &mut Out,
     sink: &mut K,

@@ -1,4 +1,4 @@
-//! Instantiations, and the lines that tell of them.
+//! Instantiations, and the lines that show them.
 ghost use Rattle.std.specs.Prelude.{◌≡◌, ◌^◌, ◌<◌, ◌++◌, IsTrue, OnErr, false, codes, decimal};
 ghost use Rattle.ops_io.specs.Ports.{port, PutsBytes};
 ghost use Rattle.ops_meaning.specs.Layout.{rule_name, tags_text, inst_text, partial_text, line_at};
@@ -12,7 +12,7 @@ use ops_base::symbols::Names;
 use ops_base::values::{NIL, Sym};
 use ops_io::{Out, Sink, WriteFailed};
 
-/// The name of the production with this number, `nil` where there is none.
+/// The name of the production with this number, or `nil` if there is none.
 pub fn rule_name(rules: &[Rule], rule: usize) -> Sym
     ensures { result ≡ rule_name rules.now rule }
 {
@@ -36,7 +36,7 @@ fn put_tags<K: Sink>(out: &mut Out, sink: &mut K, tags: &[u64]) -> Result<(), Wr
     Ok(())
 }
 
-/// Puts an instantiation: the name of its production, and its tags. Takes no memory.
+/// Puts an instantiation: the name of its production, and its tags. Allocates nothing.
 pub fn put_inst<K: Sink>(
     out: &mut Out,
     sink: &mut K,
@@ -55,7 +55,7 @@ pub fn put_inst<K: Sink>(
     put_tags(out, sink, item.tags.as_slice())
 }
 
-/// Puts an instantiation on a line of its own. Takes no memory.
+/// Puts an instantiation on a line of its own. Allocates nothing.
 pub fn put_inst_line<K: Sink>(
     out: &mut Out,
     sink: &mut K,
@@ -75,8 +75,8 @@ pub fn put_inst_line<K: Sink>(
     out.put(sink, b"\n")
 }
 
-/// Puts a partial match on a line of its own: the name of its production, the number of parts that its elements meet, and
-/// its tags. Takes no memory.
+/// Puts a partial match on a line of its own: the name of its production, the number of parts that its elements meet,
+/// and its tags. Allocates nothing.
 pub fn put_partial_line<K: Sink>(
     out: &mut Out,
     sink: &mut K,
@@ -99,7 +99,7 @@ pub fn put_partial_line<K: Sink>(
     out.put(sink, b"\n")
 }
 
-/// Puts the line of a firing: its number, and the instantiation that fires. Takes no memory.
+/// Puts the line of a firing: its number, and the instantiation that fires. Allocates nothing.
 pub fn put_firing<K: Sink>(
     out: &mut Out,
     sink: &mut K,

@@ -1,5 +1,6 @@
-//! The layout of what is printed, put into the output buffer: values, symbols, elements, instantiations, spaces, lines
-//! and the lines of endings. The definitions of these texts are total, and so are the functions: `nil` stands for a
+//! The layout of everything that is printed, put into the output buffer: values, symbols, elements, instantiations,
+//! spaces, lines and the lines of endings. The definitions of these texts are total, and so are the functions: they use
+//! `nil` in place of a production or a class that a program does not have. A checked program refers to none.
 //! production or a class that a program does not have. A program that was checked names none.
 #![tactic(auto)]
 

@@ -1,4 +1,4 @@
-//! Lines of their own.
+//! Output on lines of its own.
 ghost use Rattle.std.specs.Prelude.{◌≡◌, ◌^◌, ◌<◌, ◌++◌, IsTrue, OnErr, false, decimal};
 ghost use Rattle.ops_io.specs.Ports.{port, PutsBytes};
 ghost use Rattle.ops_meaning.specs.Layout.{fresh_line, kept_line, line_at, symbol_text};
@@ -9,14 +9,14 @@ use ops_base::symbols::Names;
 use ops_base::values::Sym;
 use ops_io::{Out, Sink, WriteFailed};
 
-/// What begins a line from a column on.
+/// The bytes that start a fresh line if the output is at this column.
 fn fresh_line_at(column: u64) -> &'static [u8]
     ensures { result.now ≡ fresh_line column }
 {
     if column == 0 { &[] } else { b"\n" }
 }
 
-/// Puts an LF where the column is not 0.
+/// Puts an LF if the column is not 0.
 pub fn fresh_line<K: Sink>(out: &mut Out, sink: &mut K) -> Result<(), WriteFailed>
     requires whole { IsTrue out.old.whole }
     requires faults { K.faults sink.old < 2 ^ 63 }
@@ -75,7 +75,7 @@ pub fn put_number_line<K: Sink>(
     put_numbered(out, sink, before, number, b"\n")
 }
 
-/// Puts the line that tells how many firings are kept, where fewer are than are to be undone.
+/// Puts the line which says how many firings are kept, if that is fewer than are to be undone.
 pub fn put_kept_line<K: Sink>(out: &mut Out, sink: &mut K, kept: u64) -> Result<(), WriteFailed>
     requires whole { IsTrue out.old.whole }
     requires faults { K.faults sink.old < 2 ^ 63 }

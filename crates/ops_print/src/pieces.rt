@@ -6,10 +6,10 @@ ghost use Rattle.ops_meaning.specs.Layout.{spaces};
 use itoa::Buffer;
 use ops_io::{Out, Sink, WriteFailed};
 
-/// As many spaces as one call of the buffer is given.
+/// The most spaces that are put into the buffer in one call.
 const SPACES: [u8; 64] = [b' '; 64];
 
-/// Puts these pieces one after another.
+/// Puts these three pieces in order.
 pub(crate) fn put_three<K: Sink>(
     out: &mut Out,
     sink: &mut K,

@@ -1,4 +1,4 @@
-//! Symbols as they are printed everywhere but in `write`.
+//! Symbols, as they are printed everywhere except by `write`.
 ghost use Rattle.std.specs.Prelude.{◌≡◌, ◌^◌, ◌<◌, [], ◌++◌, IsTrue, OnErr, false, codes, if◌then◌else◌};
 ghost use Rattle.ops_io.specs.Ports.{port, PutsBytes};
 ghost use Rattle.ops_meaning.specs.Layout.{is_symbol, is_plain_symbol, symbol_text};
@@ -30,15 +30,15 @@ fn is_plain_symbol(spelling: &[u8]) -> bool
     }
 }
 
-/// What stands on both sides of a spelling.
+/// The bytes on both sides of a spelling.
 fn bar_of(spelling: &[u8]) -> &'static [u8]
     ensures { result.now ≡ (if is_plain_symbol spelling.now then [] else codes "|") }
 {
     if is_plain_symbol(spelling) { &[] } else { b"|" }
 }
 
-/// Puts a symbol as a program names it: between bars where it is not plain. It reads the spelling as a token to see
-/// that.
+/// Puts a symbol as a program names it: between bars if it is not plain. To find that out, it reads the spelling as a
+/// token.
 pub fn put_symbol<K: Sink>(
     out: &mut Out,
     sink: &mut K,

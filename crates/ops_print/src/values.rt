@@ -1,4 +1,4 @@
-//! Values as `write` prints them, and how they stand after what was printed before.
+//! Values as `write` prints them, and how they are separated from what was printed before.
 ghost use Rattle.std.specs.Prelude.{◌≡◌, ◌^◌, ◌<◌, IsTrue, OnErr, false, length};
 ghost use Rattle.ops_io.specs.Ports.{port, PutsBytes};
 ghost use Rattle.ops_meaning.specs.Layout.{value_text, lead_bytes, tab_bytes};
@@ -10,18 +10,18 @@ use ops_base::symbols::Names;
 use ops_base::values::Value;
 use ops_io::{Out, Sink, WriteFailed};
 
-/// How a value stands after what was printed before it.
+/// How a value is separated from what was printed before it.
 #[derive(Clone, Copy, Debug, PartialEq, Eq)]
 pub enum Lead {
-    /// One space apart, but at column 0.
+    /// By one space, except at column 0.
     Apart,
-    /// Close to it.
+    /// Not at all.
     Close,
-    /// After spaces, so that spaces and value have this many bytes.
+    /// Preceded by spaces, so that spaces and value have this many bytes together.
     RightIn(usize),
 }
 
-/// Puts a value as `write` spells it, without what stands before it.
+/// Puts a value as `write` spells it, without the bytes before it.
 pub fn put_value<K: Sink>(
     out: &mut Out,
     sink: &mut K,
@@ -40,7 +40,7 @@ pub fn put_value<K: Sink>(
     }
 }
 
-/// How many bytes `put_value` puts. A number is written out to see that.
+/// How many bytes `put_value` puts. To find that out for a number, it formats the number.
 pub fn value_length(names: &Names, value: &Value) -> usize
     ensures { result ≡ length (value_text names.now value.now) }
 {
@@ -71,7 +71,7 @@ pub fn put_lead<K: Sink>(
     }
 }
 
-/// Goes to the column before `n`, on a line further where that is reached already.
+/// Moves to the column before `n`, on a new line if the output is already at column `n` or beyond.
 pub fn put_tab<K: Sink>(out: &mut Out, sink: &mut K, n: usize) -> Result<(), WriteFailed>
     requires whole { IsTrue out.old.whole }
     requires faults { K.faults sink.old < 2 ^ 63 }

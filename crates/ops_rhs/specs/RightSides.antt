@@ -22,12 +22,12 @@ use Rattle.ops_rhs.specs.declared.sides.Sight.{Sight}
 
 -- ---- of words
 
--- how it goes where a right side begins with these words
+-- how the walk proceeds if a right side begins with these words
 abbrev pub right_way : List Word → State → Way
 right_way words s = λ more ws. goes (words ++ more) (Actions ∷ ws) (right_begun s)
 
--- A state in which these classes are declared and this is in sight, as an arrow leaves it: no constants of a command
--- are read.
+-- A state in which these classes are declared and this is in sight, as it is after an arrow: no constants of a command
+-- are being read.
 pub record Sees (classes : List Class) (sight : Sight) (s : State) : Type 0 where
   pub classes_are : s.classes ≡ classes
   pub constants_are : s.constants ≡ []
@@ -37,7 +37,8 @@ pub record Sees (classes : List Class) (sight : Sight) (s : State) : Type 0 wher
   pub cells_are : cells_of s.conditions ≡ sight.cells
   pub conditions_are : cells_from 0 s.conditions ≡ sight.conditions
 
--- the state at the end of a right side: its actions, what is in sight there, and the classes of the cells that it named
+-- the state at the end of a right side: its actions, what is in sight there, and the classes of the cells that `cbind`
+-- named
 abbrev pub right_read : State → List Action → Sight → List ℕ → State
 right_read s actions sight further =
     record (right_begun s) { actions = actions; values = sight.values; elements = sight.elements; variables = sight.variables; further = further }
@@ -45,7 +46,7 @@ right_read s actions sight further =
 abbrev pub IsBracket : Word → Type 0
 IsBracket w = is_right w.kind ≡ true
 
--- the state where the words end, whatever is then still wanted
+-- the state where the words end, whatever is still expected there
 abbrev pub reached : List Word → List Wanted → State → Outcome
 reached words ws s = goes_onward (λ ws t. Ok t) words ws s
 
@@ -54,9 +55,9 @@ abbrev pub HasNamed : List ℕ → Outcome → Type 0
 HasNamed further (Ok s) = s.further ≡ further
 HasNamed further (Err e) = ⊥
 
--- Where these classes are declared and the old sight is in sight, the words up to a closing bracket are read as these
--- actions: whatever words stand after it, it goes on there from the state that the right side leaves, whatever else was
--- read before and is wanted afterwards. The bracket ends the production.
+-- If these classes are declared and `old` is in sight, the words up to a closing bracket are read as these actions.
+-- Whatever words follow the bracket, whatever else was read before and whatever is expected afterwards, the walk
+-- continues there from the state that the right side leaves. The bracket ends the production.
 pub record ReadsRight (classes : List Class) (old : Sight) (words rest : List Word) (actions : List Action) (new : Sight) : Type 0 where
   pub behind : AreBehind IsBracket words rest
   -- the classes of the cells that the right side named, as they are known at the bracket
@@ -66,7 +67,7 @@ pub record ReadsRight (classes : List Class) (old : Sight) (words rest : List Wo
   pub conditions : new.conditions ≡ old.conditions
   pub reads : (s : State) → Sees classes old s → (more : List Word) (ws : List Wanted) → right_way (behind.before ++ behind.last ∷ []) s more ws ≡ goes more ws (with_rule (right_read s actions new further) behind.last.past)
 
--- where these classes are declared and this is in sight, the words are refused so
+-- if these classes are declared and this is in sight, the words are refused in this way
 abbrev pub RefusesRight : List Class → Sight → List Word → Refusal → Type 0
 RefusesRight classes sight words e = (s : State) → Sees classes sight s → Fails (right_way words s) e
 
@@ -77,22 +78,22 @@ abbrev pub sight_of : Scope → Sight
 sight_of scope =
     record { values = scope.values; elements = scope.elements; cells = scope.cells; conditions = scope.conditions; variables = scope.variables }
 
--- a closing bracket stands at the place
+-- there is a closing bracket at the place
 pub record IsBracketAt (tokens : List Token) (place : ℕ) : Type 0 where
   pub token : Token
   pub there : slice_get tokens place ≡ Some token
   pub is : is_right token.kind ≡ true
 
--- The tokens from a place on are read as these actions up to the closing bracket at that place, and the scope is what
--- they leave in sight.
+-- The tokens from a place on, up to the closing bracket at the other place, are read as these actions, and the new
+-- scope is what they leave in sight.
 pub record IsRightSide (old new : Scope) (tokens : List Token) (from : ℕ) (actions : List Action) (place : ℕ) : Type 0 where
   pub begins : from ≤ place
   pub bracket : IsBracketAt tokens place
   pub reads : ReadsRight old.classes (sight_of old) (words_of_scope old tokens from) (drop (place + 1 - from) (words_of_scope old tokens from)) actions (sight_of new)
   pub names : new.names ≡ names_from old.text.items old.names (drop from tokens)
 
--- The tokens are refused at the first byte of a word, or where they end before the closing bracket, at the byte past
--- the last.
+-- The tokens are refused at the first byte of a word; or, if they end before the closing bracket, at the byte past the
+-- last.
 pub data IsRefusedAt (scope : Scope) (tokens : List Token) (from : ℕ) : Fault → ℕ → Type 0 where
   at_word : (f : Fault) (w : Word) → RefusesRight scope.classes (sight_of scope) (words_of_scope scope tokens from) (refusal.At f (Some w)) → IsRefusedAt scope tokens from f w.first
   at_end : RefusesRight scope.classes (sight_of scope) (words_of_scope scope tokens from) (refusal.At fault.Unclosed None) → IsRefusedAt scope tokens from fault.Unclosed (past_last 0 tokens)

@@ -1,4 +1,4 @@
--- How the walk over the words of a right side goes along with the definition's, by places in the words.
+-- How the walk over the words of a right side follows the definition's walk, by places in the words.
 use Rattle.std.specs.Prelude.{◌≡◌, ℕ, ◌+◌, ◌-◌, ◌<◌, ◌≤◌, ◌==◌, true, if◌then◌else◌, Option, Some, None, List, [], ◌∷◌, ◌++◌, take, drop, length, slice_get, unwrap_or, Result, Ok, Err}
 use Rattle.ops_base.specs.declared.elements.Class.{Class}
 use Rattle.ops_base.specs.declared.actions.Term.{Term}
@@ -22,7 +22,7 @@ use Rattle.ops_rhs.specs.declared.right.Target.TheVariants as target
 use Rattle.ops_rhs.specs.declared.right.Column.{Column}
 use Rattle.ops_rhs.specs.declared.right.Column.TheVariants as column
 
--- what is read so far, where all else that was read is that of a state
+-- what was read so far, if everything else that was read is that of a state
 abbrev pub seen : State → Right → State
 seen s r =
     record s {
@@ -45,7 +45,7 @@ seen s r =
       formula = no_formula;
     }
 
--- what is read so far, where nothing else was read
+-- what was read so far, if nothing else was read
 abbrev pub view : Right → State
 view r = seen nothing_read r
 
@@ -55,32 +55,32 @@ pub record IsAround (a : Around) (s : State) : Type 0 where
   pub cells : cells_of s.conditions ≡ a.cells.now
   pub conditions : cells_from 0 s.conditions ≡ a.conditions.now
 
--- the new state, whatever is around the right side, unless memory ran out
+-- `new` is the expected state, whatever is around the right side, unless memory ran out
 abbrev pub BecomesAmong : {X : Type 0} → Around → (State → State) → (State → State) → Result X Refusal → Type 0
 BecomesAmong a new expected (Ok x) = (s : State) → IsAround a s → new s ≡ expected s
 BecomesAmong a new expected (Err refusal.OutOfMemory) = Unit {0}
 BecomesAmong a new expected (Err (refusal.At f word)) = ⊥
 
--- a call read what was wanted, in the words from a place on
+-- the call read what was expected, in the words from a place on
 abbrev pub Reads : Around → Wanted → Right → Right → List Word → ℕ → Result ℕ Refusal → Type 0
 Reads a w old new words at result = GoesAmong (IsAround a) (λ more ws s. goes (drop at words ++ more) (w ∷ ws) (seen s old)) words (λ s. seen s new) result
 
--- a call did this with a word that was taken, and read on in the words from a place on
+-- the call did this with a word that was already taken, and read on in the words from a place on
 abbrev pub Acts : Around → (List Wanted → State → Step) → Word → Right → Right → List Word → ℕ → Result ℕ Refusal → Type 0
 Acts a does w old new words at result = GoesAmong (IsAround a) (λ more ws s. after (goes (drop at words ++ more)) w (does ws (seen s old))) words (λ s. seen s new) result
 
--- the same, whatever stands around
+-- the same, whatever is around the right side
 abbrev pub ReadsAnywhere : Wanted → Right → Right → List Word → ℕ → Result ℕ Refusal → Type 0
 ReadsAnywhere w old new words at result = GoesOn (λ more ws s. goes (drop at words ++ more) (w ∷ ws) (seen s old)) words (λ s. seen s new) result
 
 abbrev pub ActsAnywhere : (List Wanted → State → Step) → Word → Right → Right → List Word → ℕ → Result ℕ Refusal → Type 0
 ActsAnywhere does w old new words at result = GoesOn (λ more ws s. after (goes (drop at words ++ more)) w (does ws (seen s old))) words (λ s. seen s new) result
 
--- a call read what was wanted up to where that is wanted
+-- the call read what was expected, up to where that other thing is expected
 abbrev pub GoesTo : Around → Wanted → Way → List Word → Right → Result ℕ Refusal → Type 0
 GoesTo a w from words new result = GoesToAmong (IsAround a) w from words (λ s. seen s new) result
 
--- ---- where the words are cut
+-- ---- if the words are cut off
 
 abbrev pub CutReads : Around → Wanted → Right → Right → List Word → ℕ → Result ℕ Refusal → Type 0
 CutReads a w old new words at result = CutGoesAmong (IsAround a) (λ cut on ws s. goes_onward on (drop at cut) (w ∷ ws) (seen s old)) words (λ s. seen s new) result
@@ -109,7 +109,7 @@ target_of target.Terms = ToTerms
 target_of target.Item = ToItem
 target_of target.Bind = ToBind
 
--- a value goes there
+-- a value is put there
 abbrev pub with_term : Target → State → Term → State
 with_term (target.Put f) s t = with_put s f t
 with_term target.Terms s t = record s { terms = s.terms ++ t ∷ [] }
@@ -118,21 +118,21 @@ with_term target.Bind s t = with_bind (number_of s.variable s.values) s t
 
 -- ---- expressions
 
--- How it goes, whichever operand was read before, is how it goes in the words from the next place on with this operand,
--- or it is the refusal. Memory may run out.
+-- Whichever operand was read before: either the walk continues in the words from the next place on with this operand,
+-- or it ends in the refusal. Memory may run out.
 abbrev pub GoesToOperand : (Formula → Way) → Right → List Word → Result (Formula × ℕ) Refusal → Type 0
 GoesToOperand from r words (Ok x) = (f : Formula) (more : List Word) (ws : List Wanted) (s : State) → from f more ws s ≡ goes (drop x.1 words ++ more) ws (with_formula (seen s r) x.0)
 GoesToOperand from r words (Err e) = (f : Formula) → Fails (from f) e
 
--- a call read an operand where that was wanted
+-- the call read an operand where that was expected
 abbrev pub ReadsOperand : Wanted → Right → List Word → ℕ → Result (Formula × ℕ) Refusal → Type 0
 ReadsOperand w r words at result = GoesToOperand (λ f more ws s. goes (drop at words ++ more) (w ∷ ws) (with_formula (seen s r) f)) r words result
 
--- a call did this with a word that was taken, and read on to the end of an operand
+-- the call did this with a word that was already taken, and read on to the end of an operand
 abbrev pub ActsOperand : (List Wanted → State → Step) → Word → Right → List Word → ℕ → Result (Formula × ℕ) Refusal → Type 0
 ActsOperand does w r words at result = GoesToOperand (λ f more ws s. after (goes (drop at words ++ more)) w (does ws (with_formula (seen s r) f))) r words result
 
--- what is done with the word makes it an operand, or refuses it
+-- handling the word makes it an operand, or refuses it
 abbrev pub IsOperand : (List Wanted → State → Step) → Word → Right → Result Formula Refusal → Type 0
 IsOperand does w r (Ok x) = (f : Formula) (ws : List Wanted) (s : State) → does ws (with_formula (seen s r) f) ≡ Next ws (with_formula (seen s r) x)
 IsOperand does w r (Err refusal.OutOfMemory) = Unit {0}
@@ -143,12 +143,12 @@ abbrev pub into : Option Target → Option Goal
 into (Some t) = Some (target_of t)
 into None = None
 
--- an expression ends
+-- an expression is complete
 abbrev pub ended_as : Option Target → State → Formula → State
 ended_as (Some t) s f = with_term t s (term.Compute f)
 ended_as None s f = with_formula s f
 
--- a call read an expression and the closing bracket after it, wherever its value goes
+-- the call read an expression and the closing bracket after it, wherever the value of the expression goes
 abbrev pub ReadsExpression : ℕ → Right → List Word → ℕ → Result (Formula × ℕ) Refusal → Type 0
 ReadsExpression depth r words at (Ok x) = (t : Option Target) (f : Formula) (more : List Word) (ws : List Wanted) (s : State) → goes (drop at words ++ more) (ExpressionUnit depth ∷ ExpressionRest depth [] (into t) ∷ ws) (with_formula (seen s r) f) ≡ goes (drop x.1 words ++ more) ws (ended_as t (seen s r) x.0)
 ReadsExpression depth r words at (Err e) = (t : Option Target) (f : Formula) → Fails (λ more ws s. goes (drop at words ++ more) (ExpressionUnit depth ∷ ExpressionRest depth [] (into t) ∷ ws) (with_formula (seen s r) f)) e
@@ -158,7 +158,7 @@ abbrev pub OpensExpression : List Word → ℕ → Result ℕ Refusal → Type 0
 OpensExpression words at (Ok next) = (depth : ℕ) (more : List Word) (ws : List Wanted) (s : State) → goes (drop at words ++ more) (Bracketed depth ∷ ws) s ≡ goes (drop next words ++ more) (ExpressionUnit depth ∷ ExpressionRest depth [] None ∷ ws) s
 OpensExpression words at (Err e) = (depth : ℕ) → Fails (λ more ws s. goes (drop at words ++ more) (Bracketed depth ∷ ws) s) e
 
--- ---- expressions, where the words are cut
+-- ---- expressions, if the words are cut off
 
 abbrev pub CutGoesToOperand : (Formula → CutWay) → Right → List Word → Result (Formula × ℕ) Refusal → Type 0
 CutGoesToOperand from r words (Ok x) = (n : ℕ) → x.1 ≤ n → (f : Formula) (on : Onward) (ws : List Wanted) (s : State) → from f (take n words) on ws s ≡ goes_onward on (drop x.1 (take n words)) ws (with_formula (seen s r) x.0)
@@ -174,19 +174,19 @@ abbrev pub CutReadsExpression : ℕ → Right → List Word → ℕ → Result (
 CutReadsExpression depth r words at (Ok x) = (n : ℕ) → x.1 ≤ n → (t : Option Target) (f : Formula) (on : Onward) (ws : List Wanted) (s : State) → goes_onward on (drop at (take n words)) (ExpressionUnit depth ∷ ExpressionRest depth [] (into t) ∷ ws) (with_formula (seen s r) f) ≡ goes_onward on (drop x.1 (take n words)) ws (ended_as t (seen s r) x.0)
 CutReadsExpression depth r words at (Err e) = Unit {0}
 
--- the same, where the call also looked at the word at the next place, and did not take it
+-- the same, if the call also examined the word at the next place but did not take it
 abbrev pub PeekOpensExpression : List Word → ℕ → Result ℕ Refusal → Type 0
 PeekOpensExpression words at (Ok next) = (n : ℕ) → next < n → (depth : ℕ) (on : Onward) (ws : List Wanted) (s : State) → goes_onward on (drop at (take n words)) (Bracketed depth ∷ ws) s ≡ goes_onward on (drop next (take n words)) (ExpressionUnit depth ∷ ExpressionRest depth [] None ∷ ws) s
 PeekOpensExpression words at (Err e) = Unit {0}
 
 -- ---- places after operands
 
--- the place after an operand is after that one, or it is such a refusal
+-- the place after an operand is after that one; or the result is such a refusal
 abbrev pub IsFromOperand : ℕ → Result (Formula × ℕ) Refusal → Type 0
 IsFromOperand at (Ok x) = at < x.1
 IsFromOperand at (Err e) = IsPlaced e
 
--- what waits, from the one on that was read last
+-- the waiting operands, starting with the one that was read last
 abbrev pub newest_first : List Waiting → List Waits
 newest_first [] = []
 newest_first (w ∷ waiting) = newest_first waiting ++ record { left = w.left; op = w.op } ∷ []
@@ -201,19 +201,19 @@ abbrev pub column_of : Column → Purpose
 column_of column.Tab = ToTab
 column_of column.Right = ToRight
 
--- the cell of the condition after this many, where this is what is kept of it: its number, where no negated condition
--- and no group stands before it
+-- the cell of the condition after this many others, given what is kept of it: it must equal its number, which is so if
+-- no negated condition and no group comes before it
 abbrev pub cell_by : ℕ → Option (Option ℕ) → Result ℕ Fault
 cell_by before (Some (Some cell)) = if cell == before then Ok before else Err fault.AmbiguousDesignator
 cell_by before (Some None) = Err fault.BadDesignator
 cell_by before None = Err fault.BadDesignator
 
--- the cell of the condition with a number counted from 1, where these are the cells of the conditions
+-- the cell of the condition with a number counted from 1, if these are the cells of the conditions
 abbrev pub numbered_by : Option ℕ → List (Option ℕ) → Result ℕ Fault
 numbered_by (Some n) conditions = cell_by (n - 1) (slice_get conditions (n - 1))
 numbered_by None conditions = Err fault.BadDesignator
 
--- a closing bracket stands at a place in the words
+-- there is a closing bracket at a place in the words
 pub record IsClosing (words : List Word) (place : ℕ) : Type 0 where
   pub bracket : Word
   pub there : drop place words ≡ bracket ∷ drop (place + 1) words

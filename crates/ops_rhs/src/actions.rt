@@ -1,4 +1,4 @@
-//! Actions up to the closing bracket of a production.
+//! Reads actions up to the closing bracket of a production.
 ghost use Rattle.std.specs.Prelude.{◌∷◌, ◌++◌, drop, IfOk};
 ghost use Rattle.ops_grammar.specs.Grammar.{goes, Actions, ActionWord, Closes, EndsHalt};
 ghost use Rattle.ops_forms.specs.PlaceWalks.{IsFrom, goes_onward};
@@ -14,7 +14,7 @@ use ops_forms::walking::{closing, first_of};
 use ops_grammar::{Keyword, Word};
 
 impl Right {
-    // action*, up to the closing bracket, whose place is answered
+    // action*, up to the closing bracket; returns the place of the bracket
     #[tactic(auto, unfolding(ops_grammar::specs::Grammar::goes, ops_grammar::specs::Grammar::step, ops_grammar::specs::Grammar::ends, ops_forms::specs::PlaceWalks::goes_onward))]
     pub fn read_actions(
         &mut self,

@@ -39,7 +39,7 @@ impl Right {
         Ok(rest)
     }
 
-    // value ) | ), of which the value is a fresh atom
+    // value ) | ), which means that the value is a fresh atom
     #[tactic(auto, unfolding(ops_grammar::specs::Grammar::goes, ops_grammar::specs::Grammar::step, ops_grammar::specs::Grammar::ends, ops_forms::specs::PlaceWalks::goes_onward))]
     fn bound_value(&mut self, around: &Around, words: &[Word], at: usize) -> Result<usize, Refusal>
         ensures reads { Reads around.now BoundValue self.old self.new words.now at result }
@@ -54,7 +54,7 @@ impl Right {
         self.written_value_from(around, word, words, rest)
     }
 
-    // value ), of which the first word is taken
+    // value ), whose first word was already taken
     fn written_value_from(
         &mut self,
         around: &Around,

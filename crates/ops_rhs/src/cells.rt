@@ -1,4 +1,4 @@
-//! The cells of a right side: those of the positive conditions in order, and then those that `cbind` named.
+//! The cells of a right side: first those of the positive conditions in order, then those that `cbind` named.
 ghost use Rattle.std.specs.Prelude.{◌≡◌, ◌+◌, ◌++◌, length, slice_get, unwrap_or};
 ghost use Rattle.ops_grammar.specs.Grammar.{with_cell};
 ghost use Rattle.ops_rhs.specs.Taking.{seen, BecomesAmong};
@@ -9,8 +9,8 @@ use ops_base::values::Sym;
 use ops_forms::Refusal;
 
 impl Right {
-    // the class of a cell's element. The definition is total, with the first class for a cell that is not there; the
-    // cells that are read are there.
+    // the class of a cell's element. The definition is total and uses the first class for a cell that does not exist;
+    // the cells that are read do exist.
     pub fn class_of_cell(&self, around: &Around, cell: usize) -> usize
         ensures { result ≡ unwrap_or (slice_get (around.now.cells.now ++ self.now.further.items) cell) 0 }
     {
@@ -28,7 +28,7 @@ impl Right {
         around.cells.len() + self.further.len()
     }
 
-    // the element variable names a further cell, with an element of this class
+    // makes the element variable name a further cell, with an element of this class
     pub fn add_cell(&mut self, around: &Around, class: usize, name: Sym) -> Result<(), Refusal>
         ensures { BecomesAmong around.now (λ s. seen s self.new) (λ s. with_cell (seen s self.old) class name) result }
     {

@@ -1,4 +1,4 @@
-//! The designators of the elements that a right side speaks of.
+//! The designators of the elements that a right side refers to.
 ghost use Rattle.std.specs.Prelude.{◌≡◌, ◌∷◌, ◌++◌, drop, slice_get};
 ghost use Rattle.ops_grammar.specs.Grammar.{State, goes, cell, cell_of, named_cell, natural_of, number_of, InPut, Cell, Cells, Modified, Terms};
 ghost use Rattle.ops_forms.specs.PlaceWalks.{GoesAmong, IsFrom, CutGoesAmong, goes_onward};
@@ -114,7 +114,7 @@ impl Right {
         }
     }
 
-    // an element variable, which a condition or a `cbind` before it must bind
+    // an element variable, which must be bound by a condition or a `cbind` before it
     fn named_cell(&self, name: Sym) -> Result<usize, Fault>
         ensures { result ≡ named_cell (number_of name self.now.elements) }
     {
@@ -132,8 +132,8 @@ fn numbered_cell(around: &Around, number: i128) -> Result<usize, Fault>
     }
 }
 
-// The cell of the condition that has this many conditions before it, if that condition is positive. Where one of those
-// before it is negated or a group, its number and its cell differ, and the designator is ambiguous.
+// The cell of the condition that has this many conditions before it, if that condition is positive. If one of those
+// before it is negated or a group, the number of the condition and its cell differ, and the designator is ambiguous.
 fn designated(around: &Around, before: u128) -> Result<usize, Fault>
     ensures { result ≡ cell_by before (slice_get around.now.conditions.now before) }
 {

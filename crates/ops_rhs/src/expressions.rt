@@ -18,10 +18,10 @@ use ops_tokens::TokenKind;
 // how many brackets may be open at once
 const MOST_BRACKETS: usize = 32;
 
-// how many are open in a function: those of the production, of the action and its own
+// how many are open inside a function: that of the production, that of the action and its own
 pub const FUNCTION_DEPTH: usize = 3;
 
-// an operand and the operation after it, which wait for what stands after them
+// an operand and the operation after it, waiting for the operand that follows
 #[derive(Drop)]
 pub struct Waiting {
     pub left: Expr,
@@ -29,7 +29,7 @@ pub struct Waiting {
 }
 
 impl Right {
-    // unit, or unit OP expr, and the closing bracket, where this many brackets are open
+    // unit, or unit OP expr, and the closing bracket, if this many brackets are open
     #[cycle(expressions)]
     #[tactic(auto, unfolding(ops_grammar::specs::Grammar::goes, ops_grammar::specs::Grammar::step, ops_grammar::specs::Grammar::ends, ops_forms::specs::PlaceWalks::goes_onward))]
     pub fn expression(
@@ -112,7 +112,7 @@ impl Right {
         }
     }
 
-    // a variable, which a condition or a `bind` before it must bind
+    // a variable, which must be bound by a condition or a `bind` before it
     fn bound_operand(&self, word: Word) -> Result<Expr, Refusal>
         ensures { IsOperand (λ ws s. unit_bound (number_of word.name s.values) ws s) word self.now result }
     {
@@ -123,7 +123,7 @@ impl Right {
     }
 }
 
-// the place after `compute`, where that stands there
+// the place after `compute` if that is the word here, or else this place
 #[tactic(auto, unfolding(ops_grammar::specs::Grammar::goes, ops_grammar::specs::Grammar::step, ops_grammar::specs::Grammar::ends, ops_forms::specs::PlaceWalks::goes_onward))]
 fn behind_compute(words: &[Word], at: usize) -> Result<usize, Refusal>
     ensures reads { OpensExpression words.now at result }
@@ -138,7 +138,7 @@ fn behind_compute(words: &[Word], at: usize) -> Result<usize, Refusal>
     }
 }
 
-// What waits gets its right operand, the last one first, so that each operand is copied once.
+// Gives each waiting operation its right operand, the last one first, so that each operand is copied only once.
 fn completed(mut waiting: Vec<Waiting>, last: Expr) -> Result<Expr, OutOfMemory>
     ensures { IfOk result (λ e. e ≡ completed last (newest_first waiting.items)) }
 {

@@ -31,7 +31,7 @@ impl Right {
         self.function_from(around, target, word, words, rest)
     }
 
-    // the same, of which the first word is taken
+    // the same, but the first word was already taken
     pub fn function_from(
         &mut self,
         around: &Around,

@@ -32,7 +32,7 @@ impl Right {
         }
     }
 
-    // ( item in brackets | value, of which the first word is taken
+    // ( item in brackets | value, whose first word was already taken
     fn item_from(
         &mut self,
         around: &Around,

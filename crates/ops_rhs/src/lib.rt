@@ -1,7 +1,7 @@
-//! Reading the right side of a production: its actions, and what they leave in sight.
+//! Reads the right side of a production: its actions, and what is in sight after them.
 //!
-//! The comment above a reading method is the grammar of what the method reads. Where a method's name ends in `_from`,
-//! the first word is taken already and passed to it.
+//! The comment above a reading method is the grammar of what the method reads. If a method's name ends in `_from`, the
+//! first word was already taken and is passed to it.
 #![tactic(auto)]
 
 mod actions;

@@ -78,7 +78,7 @@ impl Right {
         if !is_name(word.kind) {
             return refused(Fault::BadForm, word);
         }
-        // The definition is total: the class was found by its name, so it is there.
+        // The definition is total: in fact the class exists, because it was found by its name.
         let Some(class) = around.classes.get(self.class) else {
             return refused(Fault::UnknownAttribute, word);
         };
@@ -92,7 +92,7 @@ impl Right {
         self.value(around, Target::Put { field }, words, rest)
     }
 
-    // value*, up to what is no more of them
+    // value*, up to the first word that begins none
     #[tactic(auto, unfolding(ops_grammar::specs::Grammar::goes, ops_grammar::specs::Grammar::step, ops_grammar::specs::Grammar::ends, ops_forms::specs::PlaceWalks::goes_onward))]
     fn several(
         &mut self,

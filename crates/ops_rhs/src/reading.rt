@@ -1,4 +1,4 @@
-//! Right sides, from their words and from their tokens.
+//! Reads right sides from their words and from their tokens.
 ghost use Rattle.std.specs.Prelude.{◌≡◌, ◌≤◌, ◌++◌, [], length, All, IfOk, IfErr};
 ghost use Rattle.ops_tokens.specs.Tokens.{LiesIn};
 ghost use Rattle.ops_forms.specs.PlaceWalks.{IsPlaced};
@@ -15,9 +15,9 @@ use ops_tokens::Token;
 use std::alloc::{AllocError, Global};
 use std::mem;
 
-/// Reads the right side with which the words begin, after an arrow, where these classes are declared and that is in
-/// sight. Answers the words after its closing bracket, which stands right before them. Takes time in proportion to the
-/// words that it reads, times the logarithm of the number of names.
+/// Reads the right side at the beginning of the words, which follow an arrow, given the declared classes and what is in
+/// sight. Returns the words that come right after its closing bracket. Takes time in proportion to the number of words
+/// that it reads times the logarithm of the number of names.
 pub fn right_side<'a>(
     alloc: Global,
     classes: &Classes,
@@ -56,7 +56,7 @@ pub fn right_side<'a>(
     Ok((side, &words[place + 1..]))
 }
 
-// these cells, and then those
+// these cells, followed by those
 fn with_further(cells: Listed<usize>, further: &[usize]) -> Result<Listed<usize>, AllocError>
     ensures { IfOk result (λ all. all ≡ cells ++ further.now) }
 {
@@ -65,10 +65,10 @@ fn with_further(cells: Listed<usize>, further: &[usize]) -> Result<Listed<usize>
     Ok(Listed::from_vec(all))
 }
 
-/// Reads the right side of a production, which begins at the token `from`, after the arrow, where the scope is as the
-/// left side left it. Answers its actions and the place of its closing bracket, and leaves in the scope what is in
-/// sight there; the names of all tokens from there on are held. After a refusal the scope holds its text and classes,
-/// and else nothing that could be relied on.
+/// Reads the right side of a production. It begins at the token `from`, after the arrow, and the scope must be as the
+/// left side left it. Returns its actions and the place of its closing bracket, and leaves in the scope what is in
+/// sight there. The names of all tokens from `from` on are held. After a refusal, the scope holds its text and classes;
+/// nothing else in it can be relied on.
 pub fn read_rhs(
     alloc: Global,
     scope: &mut Scope,
@@ -99,7 +99,7 @@ pub fn read_rhs(
     }
 }
 
-// Takes what is in sight out of a scope.
+// Moves what is in sight out of a scope.
 fn take_sight(alloc: Global, scope: &mut Scope) -> Sight
     ensures sight { result ≡ sight_of scope.old }
     ensures scope { scope.new ≡ record scope.old { values = []; elements = []; cells = []; conditions = [] } }
@@ -113,7 +113,7 @@ fn take_sight(alloc: Global, scope: &mut Scope) -> Sight
     }
 }
 
-// Leaves in a scope what is in sight.
+// Puts what is in sight into a scope.
 fn put_sight(scope: &mut Scope, sight: Sight)
     ensures { scope.new ≡ record scope.old { values = sight.values; elements = sight.elements; cells = sight.cells; conditions = sight.conditions; variables = sight.variables } }
 {

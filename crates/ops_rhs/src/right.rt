@@ -1,4 +1,4 @@
-//! What was read so far of a right side, and how it grows.
+//! What was read of a right side so far, and how it grows.
 ghost use Rattle.std.specs.Prelude.{◌≡◌, None};
 ghost use Rattle.ops_grammar.specs.Grammar.{nothing_read, right_begun, number_of, with_action, with_item, with_put, with_bind, with_several, with_element, with_remove, with_write, put_action, InPut};
 ghost use Rattle.ops_forms.specs.WordWalks.{Becomes};
@@ -11,7 +11,7 @@ use ops_forms::{Classes, Declared, Named, Refusal, number_of};
 use std::alloc::Global;
 use std::mem;
 
-/// What stands around a right side: the declared classes, the class of the cell of each positive condition, and the
+/// The surroundings of a right side: the declared classes, the class of the cell of each positive condition, and the
 /// cell of each part of the left side, `None` for a negated condition or a group.
 #[derive(Clone, Copy)]
 pub struct Around<'a> {
@@ -36,8 +36,8 @@ pub enum Column {
     Right,
 }
 
-/// What was read so far of a right side. Its fields are those of the state of the definition's walk (`State` in the
-/// specs/Grammar.antt of ops_grammar), which hands values from one method to the next.
+/// What was read of a right side so far. Its fields are those of the state of the definition's walk (`State` in
+/// specs/Grammar.antt of ops_grammar). They carry values from one method to the next.
 #[derive(Drop)]
 pub struct Right {
     /// The class of the element that a `make` or a `modify` is about.
@@ -57,7 +57,7 @@ pub struct Right {
     /// How many variables were given a number.
     pub variables: usize,
     pub actions: Vec<Action>,
-    /// The cell that a `modify` names, none in a `make`.
+    /// The cell that a `modify` names; `None` in a `make`.
     pub modified: Option<usize>,
     /// The class of the element that was made last.
     pub made: Option<usize>,
@@ -117,7 +117,7 @@ impl Right {
 }
 
 impl Right {
-    // a value goes where it belongs
+    // puts a value where it belongs
     pub fn add(&mut self, target: Target, term: Term) -> Result<(), Refusal>
         ensures { Becomes (view self.new) (with_term target (view self.old) term) result }
     {
@@ -169,7 +169,7 @@ impl Right {
 }
 
 impl Right {
-    // the values of the vector attribute end
+    // the values of the vector attribute are complete
     pub fn end_terms(&mut self, field: usize) -> Result<(), Refusal>
         ensures { Becomes (view self.new) (with_several InPut field (view self.old)) result }
     {
@@ -179,7 +179,7 @@ impl Right {
         Ok(())
     }
 
-    // a `make` or a `modify` ends
+    // a `make` or a `modify` is complete
     pub fn end_puts(&mut self) -> Result<(), Refusal>
         ensures { Becomes (view self.new) (with_element InPut (view self.old)) result }
     {
@@ -207,7 +207,7 @@ impl Right {
     }
 }
 
-// a `make` of this class, or a `modify` of the cell
+// a `make` of this class, or a `modify` of this cell
 fn put_action(modified: Option<usize>, class: usize, puts: Listed<Put>) -> Action
     ensures { result ≡ put_action modified class puts }
 {

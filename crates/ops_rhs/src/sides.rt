@@ -1,10 +1,10 @@
-//! What a right side is read with, and what it is read as.
+//! What is needed to read a right side, and the result of reading it.
 
 use ops_base::actions::Action;
 use ops_base::list::Listed;
 use ops_forms::{Declared, Named};
 
-/// What is in sight of a right side.
+/// What is in sight at a right side.
 #[derive(Drop)]
 pub struct Sight {
     /// The value variables, with their numbers.
@@ -15,7 +15,7 @@ pub struct Sight {
     pub cells: Listed<usize>,
     /// The cell of each part of the left side, `None` for a negated condition or a group.
     pub conditions: Listed<Option<usize>>,
-    /// How many numbers of variables were given.
+    /// How many variables were given a number.
     pub variables: usize,
 }
 

@@ -137,13 +137,13 @@ impl Right {
     {
         match around.classes.get(self.class_of_cell(around, self.source)) {
             Some(class) => class.is_vector(self.source_field),
-            // The definition is total: each cell has a class that was declared.
+            // The definition is total: in fact each cell has a declared class.
             None => false,
         }
     }
 }
 
-// whether several values may stand there
+// whether several values are allowed there
 fn takes_several(target: Target) -> bool
     ensures { result ≡ takes_several (target_of target) }
 {

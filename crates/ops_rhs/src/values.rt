@@ -30,7 +30,7 @@ impl Right {
         self.value_from(around, target, word, words, rest)
     }
 
-    // rconstant | VARIABLE | ( function, of which the first word is taken
+    // rconstant | VARIABLE | ( function, whose first word was already taken
     pub fn value_from(
         &mut self,
         around: &Around,
@@ -74,7 +74,7 @@ impl Right {
         Ok(rest)
     }
 
-    // a variable, which a condition or a `bind` before it must bind
+    // a variable, which must be bound by a condition or a `bind` before it
     fn bound(
         &mut self,
         target: Target,

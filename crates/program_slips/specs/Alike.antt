@@ -1,4 +1,4 @@
--- Productions that have the conditions of an earlier one, up to the names of variables.
+-- Productions that have the same conditions as an earlier one, up to the names of variables.
 use Rattle.std.specs.Prelude.{ℕ, List, [], ◌∷◌, ◌++◌, codes, decimal, flat_map, if◌then◌else◌, Option, Some, None, unwrap_or, slice_get}
 use Rattle.std.specs.Fmt.{signed_decimal}
 use Rattle.ops_base.specs.declared.values.Sym.{Sym}
@@ -16,7 +16,7 @@ use Rattle.ops_base.specs.declared.rules.Rule.{Rule}
 use Rattle.program_slips.specs.declared.alike.Twin.{Twin}
 use Rattle.program_slips.specs.Texts.{met_at, with_text}
 
--- ---- a left side as one text, in which classes, attributes, symbols and variables stand by their numbers
+-- ---- a left side as one text, in which classes, attributes, symbols and variables are represented by their numbers
 
 abbrev pub value_text : Value → List ℕ
 value_text (Symbol s) = codes "s" ++ decimal s.0
@@ -52,9 +52,9 @@ part_text (Group cs) = codes "[" ++ flat_map condition_text cs ++ codes "]"
 abbrev pub left_text : Rule → List ℕ
 left_text r = flat_map part_text r.conditions
 
--- ---- productions in the order of the text
+-- ---- productions in text order
 
--- the earlier one with these conditions, where it was met at a place
+-- the earlier one with these conditions, if they were met before, at this place
 abbrev pub twins_of : List Sym → Rule → Option ℕ → List Twin
 twins_of names r None = []
 twins_of names r (Some i) = record { at = r.first; name = r.name; earlier = unwrap_or (slice_get names i) r.name } ∷ []
@@ -63,14 +63,14 @@ abbrev pub names_after : List Sym → Rule → Option ℕ → List Sym
 names_after names r None = names ++ r.name ∷ []
 names_after names r (Some i) = names
 
--- the conditions that were met, and beside each the name of its first production
+-- the conditions that were met, and with each the name of its first production
 abbrev pub twins_by : List (List ℕ) → List Sym → List Rule → List Twin
 twins_by texts names [] = []
 twins_by texts names (r ∷ rs) =
     twins_of names r (met_at texts (left_text r))
     ++ twins_by (with_text texts (left_text r)) (names_after names r (met_at texts (left_text r))) rs
 
--- Each production that has the conditions of an earlier one. Those that come later, by commands, are left out: they
--- may take the place of one that was taken out.
+-- Each production that has the same conditions as an earlier one. Productions that commands add later are left out:
+-- they may replace one that was removed.
 abbrev pub twins : List Rule → List Twin
 twins rules = twins_by [] [] rules

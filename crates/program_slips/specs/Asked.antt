@@ -1,4 +1,4 @@
--- What the conditions of a program ask for, one after another in the order of the text.
+-- What the conditions of a program ask for, one after another in text order.
 use Rattle.std.specs.Prelude.{ℕ, ◌+◌, List, [], ◌∷◌, ◌++◌, map, flat_map, nat_lt, if◌then◌else◌}
 use Rattle.ops_base.specs.declared.values.Value.{Value}
 use Rattle.ops_base.specs.declared.values.Pred.{Pred}
@@ -19,13 +19,13 @@ use Rattle.program_slips.specs.declared.asked.What.TheVariants as what
 use Rattle.program_slips.specs.declared.asked.Ask.{Ask}
 use Rattle.program_slips.specs.Unmet.{is_unmet}
 
--- the constants of which the attribute is to hold one
+-- the constants one of which the attribute must have
 abbrev pub constants_by : Pred → Operand → List Value
 constants_by Eq (Constant v) = v ∷ []
 constants_by p (OneOf vs) = vs
 constants_by p o = []
 
--- this is asked for by a condition of that number, in the production that stands at a place of the text
+-- this is asked for by the condition with this number, in the production that begins at this byte of the text
 abbrev pub ask_at : ℕ → ℕ → ℕ → What → Ask
 ask_at at number class w = record { at = at; condition = number; class = class; what = w }
 
@@ -34,7 +34,7 @@ abbrev pub asks_of_test : ℕ → ℕ → ℕ → ℕ → Test → List Ask
 asks_of_test at number class scalars t =
     if nat_lt t.field scalars then map (λ v. ask_at at number class (what.Constant t.field v)) (constants_by t.pred t.operand) else []
 
--- an element of its class; what can't be had; and its constants
+-- an element of its class, what no element can have, and its constants
 abbrev pub asks_of_condition : List Class → ℕ → ℕ → Condition → List Ask
 asks_of_condition classes at number c =
     ask_at at number c.class what.Element ∷ (if is_unmet c then ask_at at number c.class what.Unmet ∷ [] else [])

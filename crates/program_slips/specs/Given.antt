@@ -16,11 +16,11 @@ use Rattle.program_slips.specs.declared.given.Given.{Given}
 use Rattle.program_slips.specs.declared.given.Given.TheVariants as given
 use Rattle.program_slips.specs.contracts.given.GivenPartialEq.TheImpl as same
 
--- they are the same
+-- the two are the same
 abbrev pub same_given : Given → Given → Bool
 same_given = same.ghosts.eq
 
--- ---- what values an attribute is given
+-- ---- the values that an attribute is given
 
 -- one constant, or something else
 abbrev pub given_by_terms : ℕ → ℕ → List Term → Given
@@ -60,7 +60,7 @@ abbrev pub given_by_actions : List ℕ → ℕ → List Action → List Given
 given_by_actions cells made [] = []
 given_by_actions cells made (a ∷ rest) = given_by_action cells a ++ given_by_actions (cells_after cells made a) (made_after cells made a) rest
 
--- no `cbind` stands before the first `make` or `modify`, so 0 names no class there
+-- no `cbind` comes before the first `make` or `modify`, so there 0 is not the number of a class
 abbrev pub given_by_rule : Rule → List Given
 given_by_rule r = given_by_actions (cells_of r.conditions) 0 r.actions
 
@@ -71,7 +71,7 @@ given_by_command (command.Make class puts) = given.Class class ∷ map (given_by
 given_by_command (command.Add r) = given_by_rule r
 given_by_command _ = []
 
--- All productions count, also those that are taken out again.
+-- All productions count, including those that are removed again.
 abbrev pub given_of : List Rule → List Command → List Given
 given_of rules commands = flat_map given_by_rule rules ++ flat_map given_by_command commands
 

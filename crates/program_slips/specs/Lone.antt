@@ -1,4 +1,4 @@
--- Variables whose name stands once in their production, among its conditions: they are bound, and used nowhere.
+-- Variables whose name occurs once in their production, among its conditions: they are bound and never used.
 use Rattle.std.specs.Prelude.{ℕ, ◌+◌, ◌-◌, List, [], ◌∷◌, ◌++◌, codes, bytes_eq, map, flat_map, slice_range, length, nat_le, nat_lt, Bool, true, false, not, ◌==◌, ◌&&◌, if◌then◌else◌}
 use Rattle.ops_base.specs.Names.{is_held}
 use Rattle.ops_base.specs.declared.rules.Rule.{Rule}
@@ -13,17 +13,17 @@ use Rattle.program_slips.specs.declared.words.Standing.{Standing}
 use Rattle.program_slips.specs.declared.words.Named.{Named}
 use Rattle.program_slips.specs.Texts.{with_text}
 
--- ---- where a word stands in a production
+-- ---- the context of a word in a production
 
 abbrev pub at_start : Standing
 at_start = record { left = true; choice = false; literal = false; head = false; formula = 0 }
 
--- neither `//` nor an opening bracket stands right before it
+-- neither `//` nor an opening bracket comes right before it
 abbrev pub plain : Standing → Standing
 plain c = record c { literal = false; head = false }
 
--- In a choice each word is a constant up to the `>>`. Else `//` makes a constant of the word after it, but in a
--- `compute` it divides. A choice begins before the arrow alone: after it `<<` is a symbol.
+-- In a choice, each word is a constant up to the `>>`. Elsewhere, `//` makes a constant of the word after it, except
+-- in a `compute`, where it divides. A choice can begin only before the arrow: after it, `<<` is a symbol.
 abbrev pub after_operator : Standing → List ℕ → Standing
 after_operator c s =
     if c.choice then record c { choice = not (bytes_eq s (codes ">>")); literal = false; head = false }
@@ -38,7 +38,8 @@ after_left c = record c { literal = false; head = true; formula = if nat_lt 0 c.
 abbrev pub after_right : Standing → Standing
 after_right c = record c { literal = false; head = false; formula = c.formula - 1 }
 
--- After the arrow a bracket and `compute` begin a formula; before it, they begin a pattern of a class of that name.
+-- After the arrow, a bracket followed by `compute` begins a formula; before it, they begin a pattern of a class of
+-- that name.
 abbrev pub begins_formula : Standing → List ℕ → Bool
 begins_formula c s = c.head && not c.left && (c.formula == 0) && bytes_eq s (codes "compute")
 
@@ -66,7 +67,7 @@ named_among text c (t ∷ ts) = named_by t.kind c t.first t.past ++ named_among 
 abbrev pub name_in : List ℕ → Named → List ℕ
 name_in text n = slice_range text n.first n.past
 
--- the names that stand there more than once
+-- the names that occur there more than once
 abbrev pub again_by : List (List ℕ) → List (List ℕ) → List (List ℕ) → List (List ℕ)
 again_by met again [] = again
 again_by met again (s ∷ ss) = again_by (with_text met s) (if is_held met s then with_text again s else again) ss
@@ -77,7 +78,7 @@ lone_of text again n = if n.left && not (is_held again (name_in text n)) then n 
 abbrev pub lone_among : List ℕ → List Named → List Named
 lone_among text named = flat_map (lone_of text (again_by [] [] (map (name_in text) named))) named
 
--- those of a production, of which this is the text
+-- those of a production with this text
 abbrev pub lone_in : List ℕ → List Named
 lone_in text = lone_among text (named_among text at_start (lexed text).tokens)
 

@@ -1,13 +1,13 @@
--- Small productions with their variables that are used nowhere.
+-- Small productions with their unused variables.
 use Rattle.std.specs.Prelude.{◌≡◌, ℕ, List, [], ◌∷◌, codes, map}
 use Rattle.program_slips.specs.Lone.{name_in, lone_in}
 
--- the variables of this production that are used nowhere have these names
+-- the unused variables of this production have these names
 abbrev pub HasLone : List ℕ → List (List ℕ) → Type 0
 HasLone text names = map (name_in text) (lone_in text) ≡ names
 
--- A divisor is used, and so is a value that is printed after `<<`. A constant that looks like a variable is none: after
--- `//` before a value, also behind a `compute` or the symbol `compute`, and in a choice.
+-- A divisor is used, and so is a value that is printed after `<<`. A constant that looks like a variable is not one:
+-- after `//` before a value, including after a `compute` or the symbol `compute`, and in a choice.
 abbrev pub LoneAreFound : Type 0
 LoneAreFound =
     HasLone (codes "(p r (a ^x <n> ^y <d>) --> (write (compute <n> // <d>)))") []

@@ -2,7 +2,7 @@
 use Rattle.std.specs.Prelude.{ℕ, List, [], ◌∷◌, ◌++◌, bytes_eq, position, Option, if◌then◌else◌}
 use Rattle.ops_base.specs.Names.{is_held}
 
--- at which place the text was met first
+-- the place at which the text was met first
 abbrev pub met_at : List (List ℕ) → List ℕ → Option ℕ
 met_at texts s = position (λ t. bytes_eq s t) texts
 

@@ -1,4 +1,4 @@
-//! Productions that have the conditions of an earlier one.
+//! Productions that have the same conditions as an earlier one.
 ghost use Rattle.std.specs.Prelude.{◌≡◌, ◌++◌, ◌∷◌, List, IfOk, OnOk, unwrap_or, slice_get};
 ghost use Rattle.ops_base.specs.Names.{spellings};
 ghost use Rattle.program_slips.specs.Alike.{left_text, twins_of, names_after, twins_by, twins};
@@ -14,8 +14,8 @@ use ops_base::rules::Rule;
 use ops_base::values::Sym;
 use std::alloc::Global;
 
-/// A production that has the conditions of an earlier one: the byte of the text at which it stands, its name, and the
-/// name of the earlier one.
+/// A production that has the same conditions as an earlier one: its byte in the text, its name, and the name of the
+/// earlier one.
 #[derive(Clone, Copy, Debug, PartialEq, Eq)]
 pub struct Twin {
     pub at: usize,
@@ -23,7 +23,7 @@ pub struct Twin {
     pub earlier: Sym,
 }
 
-/// The name at this place, or else this one.
+/// The name at this place, or `name` if there is none.
 fn name_at(names: &[Sym], place: usize, name: Sym) -> Sym
     ensures { result ≡ unwrap_or (slice_get names.now place) name }
 {
@@ -33,7 +33,7 @@ fn name_at(names: &[Sym], place: usize, name: Sym) -> Sym
     }
 }
 
-/// Adds a production with conditions that were met at this place, or the name of one with new conditions.
+/// Adds a production whose conditions were met before at this place, or the name of a production with new conditions.
 fn note(
     found: &mut Vec<Twin>,
     names: &mut Vec<Sym>,
@@ -58,7 +58,7 @@ fn note(
     Ok(())
 }
 
-/// Adds a production if it has conditions that were met.
+/// Adds a production if its conditions were met before.
 fn add_rule(
     found: &mut Vec<Twin>,
     names: &mut Vec<Sym>,
@@ -86,8 +86,8 @@ fn twins_in(alloc: Global, rules: &[Rule]) -> Result<Vec<Twin>, OutOfMemory>
     Ok(found)
 }
 
-/// The productions that have the conditions of an earlier one, in the order of the text, those left out that come later.
-/// Takes time and memory in proportion to the left sides.
+/// The productions that have the same conditions as an earlier one, in text order, without those that are added
+/// later. Takes time and memory in proportion to the left sides.
 pub fn twins(alloc: Global, program: &Program) -> Result<Vec<Twin>, OutOfMemory>
     ensures { IfOk result (λ v. v.items ≡ twins program.now.rules) }
 {

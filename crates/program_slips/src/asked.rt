@@ -21,12 +21,12 @@ pub enum What {
     Element,
     /// A constant in one of its attributes.
     Constant { field: usize, value: Value },
-    /// What no element can meet.
+    /// Something that no element can meet.
     Unmet,
 }
 
-/// What is asked for, and by which condition: its number in its production, counted from 1, where a group counts as
-/// one, and the byte of the text at which the production stands.
+/// What is asked for, and by which condition: its number in its production, counted from 1 with a group as one, and
+/// the byte of the text at which the production begins.
 #[derive(Clone, Copy, Debug, PartialEq, Eq)]
 pub struct Ask {
     pub at: usize,
@@ -35,7 +35,7 @@ pub struct Ask {
     pub what: What,
 }
 
-/// The constants of which the attribute is to hold one.
+/// The constants one of which the attribute must have.
 fn constants_by(pred: Pred, operand: &Operand) -> &[Value]
     ensures { result.now ≡ constants_by pred operand.now }
 {
@@ -46,7 +46,7 @@ fn constants_by(pred: Pred, operand: &Operand) -> &[Value]
     }
 }
 
-/// A condition of a production: where the production stands, the number of the condition, and its class.
+/// A condition of a production: the byte at which the production begins, the number of the condition, and its class.
 #[derive(Clone, Copy)]
 struct Place {
     at: usize,
@@ -185,7 +185,7 @@ fn add_command(asks: &mut Vec<Ask>, classes: &[Class], command: &Command) -> Res
     }
 }
 
-/// What the conditions of a program ask for, in the order of the text.
+/// What the conditions of a program ask for, in text order.
 pub(crate) fn asks_of(
     alloc: Global,
     classes: &[Class],

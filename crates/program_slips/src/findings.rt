@@ -1,4 +1,4 @@
-//! What conditions ask for and nothing gives.
+//! What conditions ask for and nothing provides.
 ghost use Rattle.std.specs.Prelude.{◌≡◌, ◌++◌, ◌∷◌, List, [], ◌||◌, IfOk, OnOk, if◌then◌else◌};
 ghost use Rattle.std.specs.HashSet.{contains};
 ghost use Rattle.program_slips.specs.declared.given.Given.{Given as Fact};
@@ -14,7 +14,7 @@ use ops_base::values::NOTHING;
 use std::alloc::Global;
 use std::collections::HashSet;
 
-/// Adds a fact to those that are known.
+/// Adds a fact to the known ones.
 fn learn(known: &mut HashSet<Given>, fact: Given) -> Result<(), OutOfMemory>
     ensures { OnOk result ((g : Fact) → contains same_given known.new g ≡ (same_given fact g || contains same_given known.old g)) }
 {
@@ -39,7 +39,7 @@ fn known_of(alloc: Global, facts: &[Given]) -> Result<HashSet<Given>, OutOfMemor
     Ok(known)
 }
 
-/// Whether this lacks. It costs at most three look-ups.
+/// Whether what is asked for is missing. It makes at most three lookups.
 fn lacks(known: &HashSet<Given>, class: usize, what: What) -> bool
     ensures { result ≡ lacks (contains same_given known.now) class what }
 {
@@ -64,7 +64,7 @@ fn lacks(known: &HashSet<Given>, class: usize, what: What) -> bool
     }
 }
 
-/// Adds what is asked for, if it lacks.
+/// Adds what is asked for, if it is missing.
 fn note(found: &mut Vec<Ask>, known: &HashSet<Given>, ask: Ask) -> Result<(), OutOfMemory>
     ensures { OnOk result (found.new.items ≡ found.old.items
         ++ (if lacks (contains same_given known.now) ask.class ask.what then ask ∷ [] else [])) }
@@ -75,7 +75,7 @@ fn note(found: &mut Vec<Ask>, known: &HashSet<Given>, ask: Ask) -> Result<(), Ou
     Ok(())
 }
 
-/// Adds what is asked for, if it lacks, and notes that its class was asked for.
+/// Adds what is asked for, if it is missing, and records that its class was asked for.
 fn step(found: &mut Vec<Ask>, known: &mut HashSet<Given>, ask: Ask) -> Result<(), OutOfMemory>
     ensures { OnOk result ((rest : List Asked) → found.old.items ++ lacking_by (contains same_given known.old) (ask ∷ rest)
         ≡ found.new.items ++ lacking_by (contains same_given known.new) rest) }
@@ -85,7 +85,7 @@ fn step(found: &mut Vec<Ask>, known: &mut HashSet<Given>, ask: Ask) -> Result<()
     Ok(())
 }
 
-/// What lacks of what is asked for, where this is known.
+/// The missing ones of the things asked for, given these facts.
 fn lacking_by(
     alloc: Global,
     mut known: HashSet<Given>,
@@ -100,8 +100,8 @@ fn lacking_by(
     Ok(found)
 }
 
-/// What the conditions of a program ask for, and nothing in it gives: in the order of the text. Takes time and memory
-/// in proportion to the program, and time to the square of the tests of one condition.
+/// What the conditions of a program ask for and nothing in it provides, in text order. Takes time and memory in
+/// proportion to the program, and time in proportion to the square of the tests of one condition.
 pub fn lacking(alloc: Global, program: &Program) -> Result<Vec<Ask>, OutOfMemory>
     ensures { IfOk result (λ v. v.items ≡ lacking program.now.classes program.now.rules program.now.commands) }
 {

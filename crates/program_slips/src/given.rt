@@ -12,7 +12,7 @@ use ops_base::rules::Rule;
 use ops_base::values::Value;
 use std::alloc::Global;
 
-/// Something that can come into working memory.
+/// Something that can be put into working memory.
 #[derive(Clone, Copy, Debug, PartialEq, Eq, Hash)]
 pub enum Given {
     /// An element of this class.
@@ -23,12 +23,12 @@ pub enum Given {
         field: usize,
         value: Value,
     },
-    /// A value that is no single constant, in an attribute of a class.
+    /// A value that is not a single constant, in an attribute of a class.
     Other {
         class: usize,
         field: usize,
     },
-    /// Nothing: a condition asked for this class.
+    /// Puts nothing there: a condition asked for this class.
     Asked(usize),
 }
 
@@ -87,7 +87,7 @@ fn class_of_cell(cells: &[usize], cell: usize) -> usize
     }
 }
 
-/// Adds what an action gives.
+/// Adds what an action provides.
 fn add_action(given: &mut Vec<Given>, cells: &[usize], action: &Action) -> Result<(), OutOfMemory>
     ensures { OnOk result (given.new.items ≡ given.old.items ++ given_by_action cells.now action.now) }
 {
@@ -138,7 +138,7 @@ fn cells_of(alloc: Global, conditions: &[Part]) -> Result<Vec<usize>, OutOfMemor
     Ok(cells)
 }
 
-/// Adds what the actions of a right side give, where the cells have these classes at its start.
+/// Adds what the actions of a right side provide, if the cells have these classes at its start.
 fn add_actions(
     given: &mut Vec<Given>,
     cells: &mut Vec<usize>,
@@ -176,7 +176,7 @@ fn add_command(alloc: Global, given: &mut Vec<Given>, command: &Command) -> Resu
     }
 }
 
-/// What the productions and the commands of a program give, one after another.
+/// What the productions and the commands of a program provide, in order.
 pub(crate) fn given_of(
     alloc: Global,
     rules: &[Rule],

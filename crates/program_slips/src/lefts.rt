@@ -1,4 +1,4 @@
-//! A left side as one text, in which classes, attributes, symbols and variables stand by their numbers.
+//! A left side as one text, in which classes, attributes, symbols and variables are represented by their numbers.
 ghost use Rattle.std.specs.Prelude.{◌≡◌, ◌++◌, ◌∷◌, codes, decimal, flat_map, IfOk, OnOk};
 ghost use Rattle.program_slips.specs.Alike.{value_text, pred_text, operand_text, test_text, sign_text, condition_text, part_text, left_text};
 

@@ -1,4 +1,4 @@
-//! What the productions of a program ask for in vain, and what they say for nothing.
+//! What the productions of a program ask for in vain, and what they contain to no effect.
 #![tactic(auto)]
 
 pub mod alike;

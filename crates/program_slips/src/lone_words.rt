@@ -1,4 +1,4 @@
-//! Variables whose name stands once in their production.
+//! Variables whose name occurs once in their production.
 ghost use Rattle.std.specs.Prelude.{◌≡◌, ◌≤◌, ◌<◌, ◌+◌, ◌^◌, ◌++◌, [], map, length, flat_map, slice_range, All, IfOk, OnOk, if◌then◌else◌, true};
 ghost use Rattle.ops_base.specs.Names.{spellings, is_held};
 ghost use Rattle.program_slips.specs.Texts.{with_text};
@@ -23,7 +23,7 @@ fn name_of(text: &[u8], named: Named) -> &[u8]
     &text[named.first..named.past]
 }
 
-/// Notes that a name stands there, and whether it did before.
+/// Records an occurrence of a name, and whether it had occurred before.
 fn count(
     met: &mut IndexSet<Vec<u8>>,
     again: &mut IndexSet<Vec<u8>>,
@@ -41,7 +41,7 @@ fn count(
     Ok(())
 }
 
-/// The names that stand more than once.
+/// The names that occur more than once.
 fn again_in(alloc: Global, text: &[u8], named: &[Named]) -> Result<IndexSet<Vec<u8>>, OutOfMemory>
     requires { All (LiesWithin text.now) named.now }
     ensures { IfOk result (λ again. spellings again.keys ≡ again_by [] [] (map (name_in text.now) named.now)) }
@@ -54,7 +54,7 @@ fn again_in(alloc: Global, text: &[u8], named: &[Named]) -> Result<IndexSet<Vec<
     Ok(again)
 }
 
-/// Adds a variable, if its name stands once.
+/// Adds a variable, if its name occurs once.
 fn add_lone(
     lone: &mut Vec<Named>,
     text: &[u8],
@@ -71,7 +71,7 @@ fn add_lone(
     Ok(())
 }
 
-/// Those of these variables whose name stands once, before the arrow.
+/// Those of these variables whose name occurs once, before the arrow.
 fn lone_among(
     alloc: Global,
     text: &[u8],
@@ -89,7 +89,7 @@ fn lone_among(
     Ok(lone)
 }
 
-/// The variables of the text of a production whose name stands there once, before the arrow.
+/// The variables of the text of a production whose name occurs there once, before the arrow.
 fn lone_in(alloc: Global, scanner: &Scanner, text: &[u8]) -> Result<Vec<Named>, OutOfMemory>
     ensures lone { IfOk result (λ v. v.items ≡ lone_in text.now) }
     ensures within { IfOk result (λ v. All (LiesWithin text.now) v.items) }
@@ -101,7 +101,7 @@ fn lone_in(alloc: Global, scanner: &Scanner, text: &[u8]) -> Result<Vec<Named>, 
     Ok(lone)
 }
 
-/// Adds variables of a part of a text that begins at this place.
+/// Adds variables of a part of a text that begins at this byte.
 fn add_moved(
     found: &mut Vec<Named>,
     text: &[u8],
@@ -131,7 +131,7 @@ fn lies_in(text: &[u8], rule: &Rule) -> bool
     rule.first <= rule.past && rule.past <= text.len()
 }
 
-/// Adds the variables of a production whose name stands there once.
+/// Adds the variables of a production whose name occurs there once.
 fn add_rule(
     alloc: Global,
     scanner: &Scanner,
@@ -187,9 +187,9 @@ fn lone_of(
     Ok(found)
 }
 
-/// The variables of a program that are bound and used nowhere, in the order of the text: the name of each stands once
-/// in its production, among the conditions. Takes time in proportion to the productions, and memory in proportion to
-/// the longest one and to what is found.
+/// The variables of a program that are bound and never used, in text order: the name of each occurs once in its
+/// production, among the conditions. Takes time in proportion to the productions, and memory in proportion to the
+/// longest production and to what is found.
 pub fn lone(alloc: Global, program: &Program) -> Result<Vec<Named>, OutOfMemory>
     ensures lone { IfOk result (λ v. v.items ≡ lone program.now.text program.now.rules program.now.commands) }
     ensures within { IfOk result (λ v. All (LiesWithin program.now.text) v.items) }

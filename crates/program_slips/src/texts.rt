@@ -1,4 +1,4 @@
-//! Texts that were met before, each found by its hash.
+//! Texts that were met before, which can be looked up by hash.
 ghost use Rattle.std.specs.Prelude.{◌≡◌, bytes_eq, IfOk, OnOk};
 ghost use Rattle.ops_base.specs.Names.{spellings, is_held};
 ghost use Rattle.program_slips.specs.Texts.{met_at, with_text};
@@ -15,7 +15,7 @@ fn add(texts: &mut IndexSet<Vec<u8>>, text: &[u8]) -> Result<(), OutOfMemory>
     Ok(())
 }
 
-/// At which place a text was met first, if it was. A new one is added at the end.
+/// The place at which a text was met first, if it was met. A new text is appended.
 pub(crate) fn meet(texts: &mut IndexSet<Vec<u8>>, text: &[u8]) -> Result<Option<usize>, OutOfMemory>
     ensures place { IfOk result (λ place. place ≡ met_at (spellings texts.old.keys) text.now) }
     ensures texts { OnOk result (spellings texts.new.keys ≡ with_text (spellings texts.old.keys) text.now) }

@@ -120,8 +120,8 @@ fn some_excludes(test: &Test, tests: &[Test]) -> bool
     tests.iter().any(|other| exclude(test, other))
 }
 
-/// Whether two of its tests, or one alone, let no value through. Takes time in proportion to the square of the tests
-/// of one condition.
+/// Whether two of its tests together, or one alone, let no value pass. Takes time in proportion to the square of the
+/// tests of one condition.
 pub(crate) fn is_unmet(condition: &Condition) -> bool
     ensures { result ≡ is_unmet condition.now }
 {

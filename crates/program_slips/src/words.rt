@@ -1,4 +1,4 @@
-//! The variables of a production, as they stand in its text.
+//! The variables of a production, as they occur in its text.
 ghost use Rattle.std.specs.Prelude.{◌≡◌, ◌<◌, ◌≤◌, ◌^◌, ◌++◌, length, All, bytes_eq, IfOk, OnOk};
 ghost use Rattle.ops_grammar.specs.Words.{lexed};
 ghost use Rattle.program_slips.specs.Lone.{plain, after_operator, after_left, after_right, begins_formula, after_symbol, after_word, named_by, named_among, at_start};
@@ -8,22 +8,23 @@ use ops_base::memory::OutOfMemory;
 use ops_tokens::{Scanner, Token, TokenKind, spelling_of};
 use std::alloc::Global;
 
-/// Where a word stands.
+/// The context of a word.
 #[derive(Clone, Copy, Debug, PartialEq, Eq)]
 pub struct Standing {
-    /// Whether it stands before the arrow.
+    /// Whether it is before the arrow.
     pub left: bool,
-    /// Whether it stands between `<<` and `>>`.
+    /// Whether it is between `<<` and `>>`.
     pub choice: bool,
-    /// Whether it stands right after `//` that makes a constant of it.
+    /// Whether it comes right after `//`, which makes a constant of it.
     pub literal: bool,
-    /// Whether it stands right after an opening bracket.
+    /// Whether it comes right after an opening bracket.
     pub head: bool,
-    /// How many brackets are open, that of the outermost `compute` and those in it, or 0.
+    /// How many brackets are open, counting that of the outermost `compute` and those inside it, or 0.
     pub formula: usize,
 }
 
-/// A variable, on the bytes of a text from `first` up to `past`, and whether it stands before the arrow.
+/// A variable, on the bytes of a text from `first` up to but not including `past`, and whether it is before the
+/// arrow.
 #[derive(Clone, Copy, Debug, PartialEq, Eq)]
 pub struct Named {
     pub first: usize,
@@ -157,7 +158,7 @@ fn note(named: &mut Vec<Named>, standing: Standing, token: Token) -> Result<(), 
     }
 }
 
-/// The token that stands next, where one does.
+/// The next token, if there is one.
 fn token_from(scanner: &Scanner, text: &[u8], from: usize) -> Option<Token>
     requires { from ≤ length text.now }
     ensures { StandsBefore text.now from result }
@@ -168,7 +169,7 @@ fn token_from(scanner: &Scanner, text: &[u8], from: usize) -> Option<Token>
     }
 }
 
-/// The variables of the text of a production, in order, also those that stand twice.
+/// The variables of the text of a production, in order, including those that occur twice.
 pub(crate) fn variables_in(
     alloc: Global,
     scanner: &Scanner,

@@ -1,4 +1,4 @@
--- What a command means.
+-- The meaning of each command.
 use Rattle.std.specs.Prelude.{◌≡◌, pos, false, [], ◌∷◌, codes, Some, None}
 use Rattle.ops_base.specs.declared.conditions.Part.TheVariants.{One}
 use Rattle.ops_base.specs.declared.rules.Rule.{Rule}
@@ -12,11 +12,11 @@ use Rattle.read_laws.specs.Texts.{Text, commands_of}
 abbrev pub Does : Text → Command → Type 0
 Does text c = commands_of text ≡ c ∷ []
 
--- the name of the production, before which nine other words of the text have become symbols
+-- the name of the production; nine other words of the text have become symbols before it
 abbrev pub name : Sym
 name = record { 0 = 10 }
 
--- the production that stands after a `run`: its name is the fourteenth word of the text that becomes a symbol
+-- the production that comes after a `run`: its name is the fourteenth word of the text that becomes a symbol
 abbrev pub later : Rule
 later =
     record {
@@ -30,7 +30,7 @@ later =
       past = 89;
     }
 
--- A production after a `run` is added there.
+-- A production after a `run` is added at its place among the commands.
 abbrev pub CommandsMean : Type 0
 CommandsMean =
     Does (codes "(make a ^y 7)") (command.Make 0 (record { field = 1; values = Whole (pos 7) ∷ [] } ∷ []))

@@ -1,4 +1,4 @@
--- Texts that are no program, each with its fault, and the line and the column at which it stands.
+-- Texts that are not programs, each with its fault, and the line and the column of the fault.
 use Rattle.std.specs.Prelude.{◌≡◌, ℕ, List, [], ◌∷◌, ◌++◌, codes, Option, Some, None, Result, Ok, Err}
 use Rattle.ops_base.specs.declared.endings.Fault.{Fault}
 use Rattle.ops_base.specs.declared.endings.Fault.TheVariants as fault
@@ -14,7 +14,7 @@ fault_in text (Err p) = Some (p.fault, line_of text p.at, column_of text p.at)
 abbrev pub IsProgram : Text → Type 0
 IsProgram text = fault_in text (reads text) ≡ None
 
--- the text is no program: this is its fault, which stands at this line and column
+-- the text is not a program: this is its fault, which is at this line and column
 abbrev pub Stands : Text → Fault → ℕ → ℕ → Type 0
 Stands text f line column = fault_in text (reads text) ≡ Some (f, line, column)
 
@@ -139,7 +139,7 @@ RightSidesFail =
     × Stands (codes "(literalize a n) (p r { (a) <w> } --> (write (substr <w> n n n)))") fault.BadForm 1 62
     × Stands (codes "(literalize a n) (p r { (a) <w> } --> (bind <x> (crlf)))") fault.BadForm 1 50
 
--- functions of right sides; in the first text, which is a program, as many brackets are open as may be
+-- functions of right sides; in the first text, which is a program, as many brackets are open as are allowed
 abbrev pub FunctionsFail : Type 0
 FunctionsFail =
     IsProgram (codes "(literalize a n) (p r (a ^n <n>) --> (write (compute (((((((((((((((((((((((((((((1))))))))))))))))))))))))))))))))")

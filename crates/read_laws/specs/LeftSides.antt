@@ -1,4 +1,4 @@
--- What a left side means.
+-- The meaning of left sides.
 use Rattle.std.specs.Prelude.{◌≡◌, ℕ, pos, negsuc, Bool, true, false, List, [], ◌∷◌, ◌++◌, codes}
 use Rattle.ops_base.specs.declared.conditions.Condition.{Condition}
 use Rattle.ops_base.specs.declared.conditions.Operand.{Operand}
@@ -19,7 +19,7 @@ tested pred operand binds = One (record { class = 0; negated = false; tests = re
 abbrev pub Means : Text → Pred → Type 0
 Means operator pred = parts_of (codes "(a ^x " ++ operator ++ codes " 7)") ≡ tested pred (Constant (Whole (pos 7))) false
 
--- no operator is =
+-- a missing operator means =
 abbrev pub OperatorsMean : Type 0
 OperatorsMean =
     Means [] Eq × Means (codes "=") Eq × Means (codes "<>") Ne × Means (codes "<") Lt × Means (codes "<=") Le
@@ -28,12 +28,12 @@ OperatorsMean =
 abbrev pub bare : ℕ → Bool → Condition
 bare class negated = record { class = class; negated = negated; tests = [] }
 
--- a test of a field for the first variable
+-- a test of a field against the first variable
 abbrev pub at : ℕ → Bool → Test
 at field binds = record { field = field; pred = Eq; operand = Variable 0; binds = binds }
 
 -- A negative number, a disjunction, a symbol, an operator that is taken literally (the twelfth word of the text that
--- becomes a symbol), and a variable, which is bound at its first place and compared at the second.
+-- becomes a symbol), and a variable, which is bound at its first occurrence and compared at the second.
 abbrev pub OperandsMean : Type 0
 OperandsMean =
     (parts_of (codes "(a ^x -2)") ≡ tested Eq (Constant (Whole (negsuc 1))) false)
@@ -42,7 +42,7 @@ OperandsMean =
     × (parts_of (codes "(a ^x // <)") ≡ tested Eq (Constant (Symbol (record { 0 = 12 }))) false)
     × (parts_of (codes "(a ^x <n> ^y <n>)") ≡ One (record { class = 0; negated = false; tests = at 0 true ∷ at 1 false ∷ [] }) ∷ [])
 
--- the one class and the other, a negated condition and a group
+-- the first class and the second, a negated condition and a group
 abbrev pub PartsMean : Type 0
 PartsMean =
     (parts_of (codes "(a)") ≡ One (bare 0 false) ∷ [])

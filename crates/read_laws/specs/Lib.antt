@@ -1,4 +1,4 @@
--- Small texts, and what is read in them.
+-- Small texts, and what they are read as.
 pub mod Texts
 pub mod LeftSides
 pub mod RightSides

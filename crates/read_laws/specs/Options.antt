@@ -1,11 +1,11 @@
--- What the words of the command line mean.
+-- The meaning of the words of the command line.
 use Rattle.std.specs.Prelude.{◌≡◌, List, [], ◌∷◌, ◌++◌, codes, Some}
 use Rattle.ops_jobs.specs.declared.jobs.Engine.TheVariants.{Direct, Serial, Rounds, Free, Steal}
 use Rattle.ops_jobs.specs.declared.jobs.Job.TheVariants.{Run, Net, Gen, Why}
 use Rattle.ops_jobs.specs.declared.jobs.Options.{Options}
 use Rattle.ops_jobs.specs.CommandLine.{Word, job_of}
 
--- the options where none is given
+-- the options if none is given
 abbrev pub usual : Options
 usual = record { engine = Free; workers = 4; lines = 1024; limit = 1000000 }
 

@@ -1,4 +1,4 @@
--- What a right side means.
+-- The meaning of right sides.
 use Rattle.std.specs.Prelude.{◌≡◌, pos, List, [], ◌∷◌, ◌++◌, codes}
 use Rattle.ops_base.specs.Expression.{Formula, number, variable, apply}
 use Rattle.ops_base.specs.declared.actions.Action.{Action}
@@ -31,7 +31,7 @@ ActionsMean =
     × Does (codes "(halt)") action.Halt
     × (actions_of (codes "(make a)(cbind <g>)") ≡ action.Make 0 [] ∷ action.Cbind 2 ∷ [])
 
--- the value that the term is
+-- the term that this text denotes
 abbrev pub Is : Text → Term → Type 0
 Is text t = Does (codes "(bind <m> " ++ text ++ codes ")") (action.Bind 1 t)
 
@@ -51,7 +51,7 @@ Computes text f = Is (codes "(compute " ++ text ++ codes ")") (term.Compute f)
 abbrev pub applied : Op → Formula
 applied op = apply op (number (pos 7)) (variable 0)
 
--- Operations are done from the right, whatever they are.
+-- Operations are applied from the right, whatever they are.
 abbrev pub OperationsMean : Type 0
 OperationsMean =
     Computes (codes "7 + <n>") (applied Add)

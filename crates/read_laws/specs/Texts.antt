@@ -1,4 +1,4 @@
--- What is read in a small text, of which one part is looked at.
+-- What a small text is read as, of which one part is examined.
 use Rattle.std.specs.Prelude.{ℕ, List, [], ◌∷◌, ◌++◌, codes, Result, Ok, Err}
 use Rattle.ops_base.specs.declared.actions.Action.{Action}
 use Rattle.ops_base.specs.declared.commands.Command.{Command}
@@ -29,15 +29,15 @@ abbrev pub commands_in : Result Read Placed → List Command
 commands_in (Ok r) = r.commands
 commands_in (Err p) = []
 
--- the parts of a left side, which this spells
+-- the parts of the left side that this text spells
 abbrev pub parts_of : Text → List Part
 parts_of left = parts_in (rules_in (reads (classes ++ codes "(p r " ++ left ++ codes "-->(halt))")))
 
--- the actions of a right side, which this spells; it stands after conditions on an `a`, named e, whose x is bound to
--- the variable 0, and on an `l`, named f
+-- the actions of the right side that this text spells; it comes after conditions on an `a`, named e, whose x is bound
+-- to variable 0, and on an `l`, named f
 abbrev pub actions_of : Text → List Action
 actions_of right = actions_in (rules_in (reads (classes ++ codes "(p r {<e>(a ^x <n>)}{<f>(l)}-->" ++ right ++ codes ")")))
 
--- the commands that this spells, after a production
+-- the commands that this text spells, which come after a production
 abbrev pub commands_of : Text → List Command
 commands_of text = commands_in (reads (classes ++ codes "(p r(a)-->(halt))" ++ text))

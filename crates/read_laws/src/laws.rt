@@ -1,6 +1,6 @@
-//! What each operator, word and form of the language means, and each word of the command line. Each law is the contract
-//! of a function that does nothing. What it says is computed from the definition of reading, so that a wrong entry
-//! there would be refused, even if the laws of spelling had the same one.
+//! The meaning of each operator, word and form of the language, and of each word of the command line. Each law is the
+//! contract of a function that does nothing. Its statement is computed from the definition of reading. So a wrong entry
+//! in that definition would be refused, even if the laws of spelling had the same wrong entry.
 ghost use Rattle.read_laws.specs.LeftSides.{OperatorsMean, OperandsMean, PartsMean};
 ghost use Rattle.read_laws.specs.RightSides.{ActionsMean, TermsMean, OperationsMean, ItemsMean};
 ghost use Rattle.read_laws.specs.Commands.{CommandsMean};
@@ -38,7 +38,7 @@ pub fn groups_count()
     ensures { GroupsCount }
 {}
 
-/// Texts that are no program: the fault of each, with its line and its column.
+/// Texts that are not programs: the fault of each, with its line and its column.
 pub fn faults_stand()
     ensures forms { FormsFail }
     ensures groups { GroupsFail }

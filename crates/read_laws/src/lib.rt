@@ -1,4 +1,4 @@
-//! Laws about what a text means that compute: each operator, word and form, in a small text that has it.
+//! Laws about the meaning of texts, checked by computation: each operator, word and form, in a small text.
 #![tactic(auto)]
 
 pub mod laws;

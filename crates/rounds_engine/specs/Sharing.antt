@@ -1,4 +1,4 @@
--- Tasks dealt to shards, each of which is some lines that follow one another, and what shards do of a round.
+-- Tasks dealt to shards, each of which is a run of consecutive lines, and what shards do in a round.
 use Rattle.std.specs.Prelude.{◌≡◌, ◌≤◌, ◌<◌, ◌+◌, ◌*◌, ◌/◌, ◌++◌, ◌↔◌, ℕ, All, List, [], ◌∷◌, Ok, Result, Some, Vec, flat_map, length, map, slice_get, sum_by}
 use Rattle.std.specs.List.{zip}
 use Rattle.std.specs.declared.alloc.Global.{Global}
@@ -23,7 +23,7 @@ use Rattle.rounds_engine.specs.declared.shards.Shard.{Shard}
 abbrev pub tasks_in : List Placed → List Task
 tasks_in ps = map (λ p. p.task) ps
 
--- the task fits, and this is its line, where there are this many, and its code
+-- the task fits, and this is its line, out of this many, and its code
 pub record IsPlacedAt (nodes : List Node) (s : Stored) (lines : ℕ) (p : Placed) : Type 0 where
   pub fits : TaskFits nodes s p.task
   pub line : p.line ≡ place_of (placed (held_of s) nodes lines) p.task
@@ -49,17 +49,17 @@ first_of (x ∷ xs) = x.first
 abbrev pub HasLine : Shard → ℕ → Type 0
 HasLine x i = (x.first ≤ i) × (i < x.first + x.count)
 
--- each task of the shard has its line, which is one of the shard's
+-- each task of the shard has its line, which belongs to the shard
 pub record HasOwn (nodes : List Node) (s : Stored) (lines : ℕ) (x : Shard) : Type 0 where
   pub placed : All (IsPlacedAt nodes s lines) x.tasks.items
   pub own : All (λ p. HasLine x p.line) x.tasks.items
 
--- the first of them begins at line i, and each other one where the one before it ends
+-- the first of them begins at line i, and each of the others where the one before it ends
 abbrev pub FollowOn : ℕ → List Shard → Type 0
 FollowOn i [] = Unit {0}
 FollowOn i (x ∷ xs) = (x.first ≡ i) × FollowOn (i + x.count) xs
 
--- shards that follow one another from line `first` on, each with tasks of its own lines
+-- adjacent shards from line `first` on, each with tasks of its own lines
 pub record AreShards (nodes : List Node) (s : Stored) (lines first : ℕ) (xs : List Shard) : Type 0 where
   pub follow : FollowOn first xs
   pub own : All (HasOwn nodes s lines) xs
@@ -70,34 +70,34 @@ pub record AreShards (nodes : List Node) (s : Stored) (lines first : ℕ) (xs : 
 abbrev pub shard_of : (shards lines i : ℕ) → ℕ
 shard_of shards lines i = i * shards / lines
 
--- line `first` and those after it are just the lines that are dealt to shard k or a later one
+-- line `first` and those after it are exactly the lines that are dealt to shard k or a later one
 abbrev pub IsFirstLine : (shards lines k first : ℕ) → Type 0
 IsFirstLine shards lines k first = (i : ℕ) → (first ≤ i) ↔ (k ≤ shard_of shards lines i)
 
--- shard k has just the lines that are dealt to it
+-- shard k has exactly the lines that are dealt to it
 abbrev pub AreDealt : (shards lines : ℕ) → List Shard → Type 0
 AreDealt shards lines xs = (k i : ℕ) (x : Shard) → slice_get xs k ≡ Some x → HasLine x i ↔ (shard_of shards lines i ≡ k)
 
--- this many shards, which have all lines, each those that are dealt to it, and tasks of its own lines
+-- this many shards, to which all lines belong; each has those that are dealt to it, and tasks of its own lines
 pub record AreAllShards (nodes : List Node) (s : Stored) (lines shards : ℕ) (xs : List Shard) : Type 0 where
   pub count : length xs ≡ shards
   pub whole : lines_of xs ≡ lines
   pub dealt : AreDealt shards lines xs
   pub each : AreShards nodes s lines 0 xs
 
--- the shard has the lines of the first one, and the tasks of the other one after its own
+-- the shard has the lines of the first one, and the tasks of the other one after those of the first
 pub record IsBoth (x y z : Shard) : Type 0 where
   pub first : z.first ≡ x.first
   pub count : z.count ≡ x.count
   pub tasks : z.tasks.items ≡ x.tasks.items ++ y.tasks.items
 
--- each shard is both of its pair
+-- each shard is the union of its pair
 abbrev pub AreBoth : List (Shard × Shard) → List Shard → Type 0
 AreBoth [] zs = zs ≡ []
 AreBoth (p ∷ ps) [] = ⊥
 AreBoth (p ∷ ps) (z ∷ zs) = IsBoth p.0 p.1 z × AreBoth ps zs
 
--- two calls were answered, and these are the shards of the one with the tasks of those of the other
+-- two calls succeeded, and these are the shards of the one with the tasks of those of the other
 pub record AreJoined (low high : Result (Vec Shard Global) OutOfMemory) (made : List Shard) : Type 0 where
   pub front : Vec Shard Global
   pub back : Vec Shard Global
@@ -132,7 +132,7 @@ pub record CanShare (nodes : List Node) (s : Stored) (lines : ℕ) (xs : List Sh
   pub count : lines_of xs ≡ length ls
   pub counted : All (IsCounted nodes s) ls
 
--- The shards did their tasks on their lines. The children have nodes further down, and are dealt to all shards.
+-- The shards performed their tasks on their lines. The children have nodes further down, and are dealt to all shards.
 pub record HaveShared (nodes : List Node) (s : Stored) (lines shards : ℕ) (xs : List Shard) (old new : List Line) (made : List Shard) : Type 0 where
   pub did : HaveDone (held_of s) nodes (placed (held_of s) nodes lines) (first_of xs) (map seen old) (map seen new) (tasks_of_shards xs) (tasks_of_shards made)
   pub deeper : AreDeeper (tasks_of_shards xs) (tasks_of_shards made)

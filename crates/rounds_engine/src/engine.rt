@@ -1,4 +1,4 @@
-//! The engine of rounds: a matcher over a network whose shards of lines work at once.
+//! The engine of rounds: a matcher over a network whose shards of lines work in parallel.
 ghost use Rattle.std.specs.Prelude.{◌≡◌, ◌≤◌, ◌^◌, All, IfOk, [], length, map, min};
 ghost use Rattle.work_store.specs.Stored.{held_of, nothing_stored};
 ghost use Rattle.activation.specs.Acting.{TellsOfLasts};
@@ -20,7 +20,7 @@ use step_core::{Gathered, World};
 use token_line::Line;
 use work_store::{Matcher, Settled, Store};
 
-/// What an engine is made of.
+/// The parts of an engine.
 #[derive(Drop)]
 struct Parts<G> {
     net: Net,
@@ -30,10 +30,10 @@ struct Parts<G> {
     sharing: Sharing,
 }
 
-/// A matcher over a network. Between two settles its lines hold just the tokens that stand at each node over its store,
-/// each once. There are as many shards as the lesser of the workers and the lines. The gate is called just before each
-/// activation, with the number of the shard, or with worker 0 on the calling thread, and with the number of the line.
-/// An engine stands on the heap, so that it is moved at a small cost.
+/// A matcher over a network. Between two settles, its lines hold exactly the tokens at each node over its store, each
+/// once. The number of shards is the lesser of the numbers of workers and of lines. The gate is called just before
+/// each activation with the number of the shard (worker 0 on the calling thread) and the number of the line. An
+/// engine is heap-allocated, so that moving it is cheap.
 #[derive(Drop)]
 pub struct RoundsEngine<G> {
     parts: Box<Parts<G>>,
@@ -47,7 +47,7 @@ impl<G> Model for RoundsEngine<G> {
 
     ghost Value = { Engine };
 
-    // Networks and worlds are told apart as their own types tell them.
+    // Networks and worlds are distinguished as in their own types.
     ghost coded = { Prim.hlevel (codes, nets.the_row.coded, worlds.the_row.coded) };
 
     ghost view = { λ e. record { net = e.parts.value.net; store = e.parts.value.store; world = e.parts.value.world; sharing = e.parts.value.sharing } };
@@ -56,8 +56,8 @@ impl<G> Model for RoundsEngine<G> {
 }
 
 impl<G: Drop> RoundsEngine<G> {
-    /// An engine over the network with this many lines and workers. Nothing is stored. It makes each line and looks at
-    /// each node, starts no thread, and takes memory for its own place.
+    /// An engine over the network with this many lines and workers, and an empty store. It makes each line and looks
+    /// at each node, starts no thread, and allocates its own place on the heap.
     pub fn new(
         alloc: Global,
         net: Net,
@@ -71,7 +71,7 @@ impl<G: Drop> RoundsEngine<G> {
         ensures net { IfOk result (λ e. e.net ≡ net) }
         ensures empty { IfOk result (λ e. e.store ≡ nothing_stored) }
         ensures lines { IfOk result (λ e. length e.world.lines.items ≡ lines) }
-        // As many shards as the lesser of the workers and the lines.
+        // The number of shards is the lesser of the numbers of workers and of lines.
         ensures shards { IfOk result (λ e. e.sharing.shards ≡ min workers lines) }
         ensures entries { IfOk result (λ e. AreEmpty (map seen e.world.lines.items)) }
     {
@@ -115,19 +115,19 @@ impl<G: Gate + Drop> RoundsEngine<G> {
     pub fn lines(&self) -> &[Line]
         ensures lines { result.now ≡ self.now.world.lines.items }
         ensures numbered { AreNumbered result.now }
-        // They hold just the tokens over the store.
+        // They hold exactly the tokens over the store.
         ensures hold { HoldJust (placed (held_of self.now.store) self.now.net.nodes (length result.now)) (sums_over self.now.store.elements self.now.net.alphas self.now.net.nodes) (map now (map seen result.now)) }
-        // They tell of just the tasks of the last settle that came to terminals.
+        // They report exactly the tasks of the last settle that were for terminals.
         ensures told { All (TellsOfLasts self.now.net.nodes) result.now }
     {
         let parts = self.parts.as_ref();
         parts.world.lines()
     }
 
-    /// Feeds all changes, and does their tasks and all that comes of them: on the calling thread as long as few are in
-    /// flight, and then in rounds, each of which does all tasks in hand. It takes time for the tasks that it does, for
-    /// the lines that they were done on, and for the nodes that a change is fed to. Where there were rounds it also
-    /// looks at each line once. What it removed is kept until the next settle.
+    /// Feeds all changes, and performs their tasks and all that result: on the calling thread while few are in
+    /// flight, and then in rounds, each of which performs all tasks in hand. It takes time for the tasks that it
+    /// performs, for the lines that they are performed on, and for the nodes that a change is fed to. If there were
+    /// rounds, it also looks at each line once. Removed elements are kept until the next settle.
     pub fn settle_in_rounds<R: Threads + Sync>(
         self,
         rt: &R,
@@ -140,7 +140,7 @@ impl<G: Gate + Drop> RoundsEngine<G> {
         ensures settled { IfOk result (λ s. IsSettled (found_over self.net.alphas self.net.nodes self.store.elements) (found_over s.matcher.net.alphas s.matcher.net.nodes s.matcher.store.elements) s.gone.items s.come.items) }
         ensures stands { IfOk result (λ s. (rules : List Rule) → NetOf self.net rules → NetOf s.matcher.net rules) }
         ensures net { IfOk result (λ s. s.matcher.net ≡ self.net) }
-        // What was removed stays kept: what was present or was added is held, and nothing else.
+        // Removed elements are still held: what was present or was added is held, and nothing else.
         ensures kept { IfOk result (λ s. HoldsAlso (record self.store { kept = [] }) s.matcher.store (added_by changes.now)) }
         // The lines with their entries are a bundle of the changes.
         ensures bundle { IfOk result (λ s. IsBundle (held_of s.matcher.store) s.matcher.net.alphas s.matcher.net.nodes (placed (held_of s.matcher.store) s.matcher.net.nodes (length s.matcher.world.lines.items)) self.store.elements changes.now (map seen s.matcher.world.lines.items)) }
@@ -207,7 +207,7 @@ impl<G: Gate + Drop> Matcher for RoundsEngine<G> {
         ensures settled { IfOk result (λ s. IsSettled (found_over self.net.alphas self.net.nodes self.store.elements) (found_over s.matcher.net.alphas s.matcher.net.nodes s.matcher.store.elements) s.gone.items s.come.items) }
         ensures stands { IfOk result (λ s. (rules : List Rule) → NetOf self.net rules → NetOf s.matcher.net rules) }
         ensures net { IfOk result (λ s. s.matcher.net ≡ self.net) }
-        // What was removed stays kept: what was present or was added is held, and nothing else.
+        // Removed elements are still held: what was present or was added is held, and nothing else.
         ensures kept { IfOk result (λ s. HoldsAlso (record self.store { kept = [] }) s.matcher.store (added_by changes.now)) }
         // The lines with their entries are a bundle of the changes.
         ensures bundle { IfOk result (λ s. IsBundle (held_of s.matcher.store) s.matcher.net.alphas s.matcher.net.nodes (placed (held_of s.matcher.store) s.matcher.net.nodes (length s.matcher.world.lines.items)) self.store.elements changes.now (map seen s.matcher.world.lines.items)) }

@@ -1,11 +1,11 @@
-//! What a round works over.
+//! The data that a round uses.
 ghost use Rattle.std.specs.Prelude.{◌≤◌};
 
 use net_base::net::Net;
 use std::alloc::Global;
 use work_store::Store;
 
-/// What a round works over: the network, the store, and how many lines and shards there are in all.
+/// The data that a round uses: the network, the store, and the total numbers of lines and shards.
 #[derive(Clone, Copy)]
 pub(crate) struct Ground<'a> {
     pub(crate) alloc: Global,
@@ -13,7 +13,7 @@ pub(crate) struct Ground<'a> {
     pub(crate) store: &'a Store,
     pub(crate) lines: usize,
     pub(crate) shards: usize,
-    // There is a line at least for each shard.
+    // There is at least one line for each shard.
     ghost some: { 1 ≤ shards },
     ghost room: { shards ≤ lines },
 }

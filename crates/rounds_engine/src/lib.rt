@@ -1,4 +1,4 @@
-//! The engine of rounds: a matcher over a network whose shards of lines work at the same time.
+//! The engine of rounds: a matcher over a network whose shards of lines work in parallel.
 #![tactic(auto)]
 
 mod engine;

@@ -1,4 +1,4 @@
-//! A phase at work: on the calling thread as long as few tasks are in flight, and then in rounds.
+//! A phase at work: on the calling thread while few tasks are in flight, and then in rounds.
 ghost use Rattle.std.specs.Prelude.{◌≡◌, ◌<◌, ◌≤◌, ◌+◌, All, IfOk, OnOk, [], length, map};
 ghost use Rattle.ops_base.specs.WorkingMemory.{Lawful, done, last_after};
 ghost use Rattle.work_store.specs.Settling.{IsSettled};
@@ -37,7 +37,8 @@ pub(crate) struct Sharing {
     pub(crate) shared: bool,
 }
 
-/// When rounds pay. Each task is dealt to its shard, and each round waits for its slowest shard, so light tasks lose.
+/// When rounds pay. Each task is dealt to its shard, and each round waits for its slowest shard, so light tasks lose
+/// time.
 const WORTH: Worth = Worth {
     alone: 4_000,
     in_hand: 4_000,
@@ -54,8 +55,8 @@ fn shard_at(ground: &Ground<'_>, world: &World, index: usize) -> usize
     shard_of(line, ground.shards, ground.lines)
 }
 
-/// Whether two tasks in flight have lines in different shards. It looks up the lines of the tasks, up to the first that
-/// has another shard than the first one, and none where there is one shard.
+/// Whether two tasks in flight have lines in different shards. It looks up the lines of the tasks, up to the first
+/// task whose shard differs from that of the first. With a single shard it looks up none.
 fn are_apart(ground: &Ground<'_>, world: &World) -> bool
     requires ready { IsReady ground.now.net.now.nodes ground.now.store.now world.now }
     requires lines { length world.now.lines.items ≡ ground.now.lines }
@@ -73,8 +74,8 @@ fn are_apart(ground: &Ground<'_>, world: &World) -> bool
     false
 }
 
-/// Does tasks in flight on the calling thread, from the last on, and what comes of them, until none is left or it pays
-/// to do the rest in rounds. It does none where a round can be shared for the first time.
+/// Performs tasks in flight on the calling thread, starting with the last, and all tasks that result, until none is
+/// left or it pays to do the rest in rounds. It performs none if a round can be shared for the first time.
 fn work_alone<G: Gate>(
     ground: &Ground<'_>,
     gate: &G,
@@ -98,8 +99,8 @@ fn work_alone<G: Gate>(
     begin_alone(ground.alloc, ground.net, ground.store, &enter, world, WORTH)
 }
 
-/// Does the tasks of these shards on the lines, in one round, which is shared among threads where that pays, and
-/// answers the shards of the next round. Beside what `do_shards` costs it looks at each shard.
+/// Performs the tasks of these shards on the lines, in one round, which is shared among threads if that pays. Returns
+/// the shards of the next round. Besides the cost of `do_shards`, it looks at each shard.
 fn work_round<R: Threads + Sync, G: Gate>(
     rt: &R,
     ground: &Ground<'_>,
@@ -122,8 +123,8 @@ fn work_round<R: Threads + Sync, G: Gate>(
     do_shards(rt, ground, gate, apart, shards, lines)
 }
 
-/// Does the tasks of these shards on the lines, and all that comes of them, in rounds, of which there are no more than
-/// nodes.
+/// Performs the tasks of these shards on the lines, and all tasks that result, in rounds. There are at most as many
+/// rounds as nodes.
 fn work_rounds<R: Threads + Sync, G: Gate>(
     rt: &R,
     ground: &Ground<'_>,
@@ -149,7 +150,7 @@ fn work_rounds<R: Threads + Sync, G: Gate>(
     Ok(())
 }
 
-/// A world of one line with no tokens, to stand where a world was taken out. It takes memory for that line alone.
+/// A placeholder for a world that is taken out: one line without tokens. It takes memory only for that line.
 fn idle_world(alloc: Global) -> Result<World, OutOfMemory> {
     let mut lines = Vec::new(alloc);
     lines.push(Line::new(alloc, 0))?;
@@ -160,9 +161,9 @@ fn idle_world(alloc: Global) -> Result<World, OutOfMemory> {
     World::from_parts(alloc, parts)
 }
 
-/// Does the tasks in flight, and all that comes of them, in rounds. Where none is in flight it does nothing. Otherwise
-/// it also looks at each line once, and takes the lines out of the world until the rounds have ended: where memory runs
-/// out before that, they are lost.
+/// Performs the tasks in flight, and all that result, in rounds. If none is in flight it does nothing. Otherwise it
+/// also looks at each line once, and takes the lines out of the world until the rounds have finished. If memory runs
+/// out before that, the lines are lost.
 fn work_in_rounds<R: Threads + Sync, G: Gate>(
     rt: &R,
     ground: &Ground<'_>,
@@ -194,7 +195,7 @@ fn work_in_rounds<R: Threads + Sync, G: Gate>(
     Ok(())
 }
 
-/// Does the tasks in flight, and all that comes of them, on the calling thread and in rounds.
+/// Performs the tasks in flight, and all that result, on the calling thread and in rounds.
 fn work_off<R: Threads + Sync, G: Gate>(
     rt: &R,
     ground: &Ground<'_>,
@@ -217,7 +218,7 @@ fn work_off<R: Threads + Sync, G: Gate>(
     Ok(())
 }
 
-/// Does all tasks in flight where these are too many to feed a change more, and none otherwise.
+/// Performs all tasks in flight if there are too many to feed one more change, and none otherwise.
 fn make_room<R: Threads + Sync, G: Gate>(
     rt: &R,
     ground: &Ground<'_>,
@@ -240,7 +241,7 @@ fn make_room<R: Threads + Sync, G: Gate>(
     Ok(())
 }
 
-/// Puts the tasks of the changes into flight, in the order of the changes. Before each change room is made.
+/// Puts the tasks of the changes into flight, in the order of the changes. Before each change it makes room.
 fn feed_in_turns<R: Threads + Sync, G: Gate>(
     rt: &R,
     ground: &Ground<'_>,
@@ -269,7 +270,7 @@ fn feed_in_turns<R: Threads + Sync, G: Gate>(
     Ok(())
 }
 
-/// Does the phase of these changes, which the store has done. The lines begin it.
+/// Runs the phase of these changes, which the store has already done. At the start the lines begin the phase.
 fn run_phase<R: Threads + Sync, G: Gate>(
     rt: &R,
     ground: &Ground<'_>,
@@ -297,8 +298,9 @@ fn run_phase<R: Threads + Sync, G: Gate>(
     Ok(())
 }
 
-/// Does the changes to the store, and their phase over lines that hold just the tokens over it. The lines then hold
-/// just the tokens over the store with the changes done, and their entries are a bundle of the changes.
+/// Does the changes to the store and runs their phase, starting from lines that hold exactly the tokens over the
+/// store. Afterwards the lines hold exactly the tokens over the store with the changes done, and their entries are a
+/// bundle of the changes.
 pub(crate) fn settle<R: Threads + Sync, G: Gate>(
     rt: &R,
     alloc: Global,

@@ -1,4 +1,4 @@
-//! A round over shards: each does its tasks on its lines, on a thread of its own or one after another.
+//! A round over shards: each performs its tasks on its lines, on a thread of its own or one after another.
 ghost use Rattle.std.specs.Prelude.{◌≡◌, ◌≤◌, ◌<◌, ◌+◌, ◌-◌, ◌^◌, ◌∷◌, [], All, IfOk, OnOk, length};
 ghost use Rattle.std.specs.Thread.{IsSync};
 ghost use Rattle.activation.specs.Acting.{IsCounted};
@@ -14,8 +14,8 @@ use std::thread::{Threads, join_mut};
 use step_core::laws::{round_laws, settle_laws};
 use token_line::Line;
 
-/// Does the task on its line, which is one of these; they are those from line `first` on. It costs what
-/// `activation::activate_coded` costs. Where memory runs out nothing has changed.
+/// Performs the task on its line, which is one of `lines`; these are the lines from number `first` on. It costs what
+/// `activation::activate_coded` costs. If memory runs out, nothing has changed.
 fn do_task(
     ground: &Ground<'_>,
     first: usize,
@@ -42,9 +42,9 @@ fn do_task(
     )
 }
 
-/// Does the tasks of one shard on its lines, and answers their children, dealt to all shards in the order in which they
-/// were made. The gate is called just before each task, with the number of the shard. Beside the activations it costs
-/// what `deal` costs for the children. Where memory runs out some tasks have been done.
+/// Performs the tasks of one shard on its lines. Returns their children, dealt to all shards in the order in which
+/// they were made. The gate is called just before each task with the number of the shard. The cost is that of the
+/// activations, plus that of `deal` for the children. If memory runs out, some tasks have been performed.
 fn do_share<G: Gate>(
     ground: &Ground<'_>,
     gate: &G,
@@ -99,8 +99,8 @@ fn do_in_turn<G: Gate>(
     joined(ground.alloc, lower, upper)
 }
 
-/// Does the lower and the upper half of the shards, each with its lines, by two threads at the same time if a thread
-/// can be made.
+/// Runs the lower and the upper half of the shards, each with its lines, on two threads in parallel if a thread can
+/// be started.
 #[cycle(shares)]
 fn do_halves<R: Threads + Sync, G: Gate>(
     rt: &R,
@@ -134,7 +134,7 @@ fn do_halves<R: Threads + Sync, G: Gate>(
     join_mut(rt, &mut lower, &mut upper)
 }
 
-/// As `do_shards`, each shard by a thread of its own if a thread can be made.
+/// As `do_shards`, with each shard on a thread of its own if a thread can be started.
 #[cycle(shares)]
 fn do_apart<R: Threads + Sync, G: Gate>(
     rt: &R,
@@ -157,11 +157,11 @@ fn do_apart<R: Threads + Sync, G: Gate>(
     joined(ground.alloc, lower, upper)
 }
 
-/// Does a round of the shards on these lines, which are theirs. Where `apart` says so, halves of the shards, and halves
-/// of these, are done by two threads at the same time if a thread can be made; else one shard is done after another.
-/// The gate is called before each task with the number of its shard as the worker. It answers the shards of the next
-/// round: the children, dealt by the shards that made them, in the order of these. What is joined here is moved. Where
-/// memory runs out some tasks have been done.
+/// Does a round of the shards on these lines, which belong to them. If `apart` is set, the shards are split into
+/// halves recursively, and two halves run on two threads in parallel if a thread can be started. Otherwise the shards
+/// run one after another. The gate is called before each task with the number of its shard as the worker. Returns the
+/// shards of the next round: the children, dealt by the shards that made them, in the order of these. The tasks of
+/// shards that are joined here are moved. If memory runs out, some tasks have been performed.
 pub(crate) fn do_shards<R: Threads + Sync, G: Gate>(
     rt: &R,
     ground: &Ground<'_>,

@@ -10,7 +10,7 @@ use ops_base::memory::OutOfMemory;
 use std::alloc::Global;
 use token_line::{LineAndCode, place_of};
 
-/// How many tasks the shards beside the largest one must have, on average, to be worth a thread each.
+/// The number of tasks that the shards other than the largest must have, on average, to be worth a thread each.
 const LEAST_TASKS_FOR_A_WORKER: usize = 64;
 
 /// A task with the number of its line, and its code.
@@ -21,7 +21,7 @@ pub(crate) struct Placed {
     pub(crate) task: Task,
 }
 
-/// A shard, which has this number: the tasks of `count` lines, from line `first` on.
+/// A shard with this number: the tasks of `count` lines, from line `first` on.
 #[derive(Drop)]
 pub(crate) struct Shard {
     pub(crate) number: usize,
@@ -31,7 +31,7 @@ pub(crate) struct Shard {
 }
 
 impl Shard {
-    /// Takes the task after those that it has. Where memory runs out it has no other.
+    /// Appends the task. If memory runs out, it is not added.
     fn take(&mut self, placed: Placed) -> Result<(), OutOfMemory>
         ensures first { self.new.first ≡ self.old.first }
         ensures count { self.new.count ≡ self.old.count }
@@ -41,7 +41,7 @@ impl Shard {
         Ok(())
     }
 
-    /// The shard with the tasks of another one after its own. It moves those.
+    /// The shard with the tasks of another one appended to its own. It moves those of the other.
     fn with(self, other: Shard) -> Result<Shard, OutOfMemory>
         ensures first { IfOk result (λ s. s.first ≡ self.first) }
         ensures count { IfOk result (λ s. s.count ≡ self.count) }
@@ -54,7 +54,7 @@ impl Shard {
     }
 }
 
-/// The shard of a line, where this many lines are dealt to this many shards.
+/// The shard of a line, if this many lines are dealt to this many shards.
 pub(crate) fn shard_of(line: usize, shards: usize, lines: usize) -> usize
     requires some { 1 ≤ shards }
     requires within { line < lines }
@@ -64,7 +64,7 @@ pub(crate) fn shard_of(line: usize, shards: usize, lines: usize) -> usize
     (line as u128 * shards as u128 / lines as u128) as usize
 }
 
-/// The first line of a shard; at the number of all shards, that of all lines.
+/// The first line of a shard. For the number one past the last shard it is the number of all lines.
 fn first_line(shard: usize, shards: usize, lines: usize) -> usize
     requires some { 1 ≤ shards }
     requires room { shards ≤ lines }
@@ -75,7 +75,7 @@ fn first_line(shard: usize, shards: usize, lines: usize) -> usize
     ((before + (shards as u128 - 1)) / shards as u128) as usize
 }
 
-/// This many shards without tasks, which have all lines.
+/// This many shards without tasks, to which all lines belong.
 fn bare_shards(alloc: Global, shards: usize, lines: usize) -> Result<Vec<Shard>, OutOfMemory>
     requires some { 1 ≤ shards }
     requires room { shards ≤ lines }
@@ -100,9 +100,9 @@ fn bare_shards(alloc: Global, shards: usize, lines: usize) -> Result<Vec<Shard>,
     Ok(bare)
 }
 
-/// All shards in order, each with those of the tasks that have its lines. Line i is dealt to shard i · shards / lines,
-/// rounded down, so the lines of a shard follow one another, and each shard has one. It makes each shard, and costs
-/// what `token_line::place_of` costs for each task, which it moves once.
+/// All shards in order, each with the tasks for its lines. Line i is dealt to shard i · shards / lines, rounded down,
+/// so the lines of a shard are consecutive, and each shard has at least one. It makes each shard, and costs what
+/// `token_line::place_of` costs for each task, which it moves once.
 pub(crate) fn deal(ground: &Ground<'_>, tasks: Vec<Task>) -> Result<Vec<Shard>, OutOfMemory>
     requires fit { All (TaskFits ground.now.net.now.nodes ground.now.store.now) tasks.items }
     ensures tasks { IfOk result (λ v. AreSame tasks.items (tasks_of_shards v.items)) }
@@ -117,8 +117,8 @@ pub(crate) fn deal(ground: &Ground<'_>, tasks: Vec<Task>) -> Result<Vec<Shard>, 
     Ok(dealt)
 }
 
-/// The shards of the first answer, each with the tasks of the same shard of the second answer after its own. It moves
-/// the tasks of the second answer.
+/// The shards of the first result, each with the tasks of the same shard of the second result appended to its own. It
+/// moves the tasks of the second result.
 pub(crate) fn joined(
     alloc: Global,
     low: Result<Vec<Shard>, OutOfMemory>,
@@ -147,9 +147,10 @@ pub(crate) fn are_idle(shards: &[Shard]) -> bool
     true
 }
 
-/// Whether a round of these shards is worth threads. Two shards must have tasks. The first such round is, so that
-/// threads are met early (`met` says whether one was shared); any other, if the largest shard leaves the others 64
-/// tasks for each of them that has tasks. It looks at each shard.
+/// Whether a round of these shards is worth using threads. At least two shards must have tasks. The first such round
+/// is worth it, so that threads are exercised early (`met` is true if a round was shared before). Any other round is
+/// worth it if the shards with tasks other than the largest have at least 64 tasks each on average. It looks at each
+/// shard.
 pub(crate) fn pays(shards: &[Shard], met: bool) -> bool {
     let mut busy: usize = 0;
     let mut all: usize = 0;

@@ -1,4 +1,4 @@
-//! Tasks over a small network, dealt to two shards and done by them. The gate tells the shards apart.
+//! Tasks over a small network, dealt to two shards and performed by them. The gate distinguishes the shards.
 ghost use Rattle.std.specs.Prelude.{◌≡◌, ◌≤◌, ◌∷◌, [], IfOk, Some, length, pos};
 ghost use Rattle.ops_base.specs.declared.values.Value.TheVariants.{Whole};
 ghost use Rattle.work_store.specs.Stored.{held_of};
@@ -22,7 +22,7 @@ use step_core::{Parts, World};
 use token_line::Line;
 use work_store::Store;
 
-/// Counts the calls of worker 0 by ones, and those of worker 1 by hundreds. It also adds up the numbers of their lines.
+/// Counts each call of worker 0 as 1, and each call of worker 1 as 100. It also adds up the numbers of their lines.
 #[derive(Drop)]
 struct Counting {
     calls: AtomicU64,
@@ -107,7 +107,7 @@ fn store_of_two(alloc: Global) -> Result<Store, OutOfMemory>
     Ok(store)
 }
 
-// four lines, and both elements have come
+// four lines; both elements have been added
 fn begun(alloc: Global, net: &Net, store: &Store) -> Result<World, OutOfMemory>
     requires first { held_of store.now 1 ≡ Some (record { tag = 1; class = 0; fields = Whole (pos 7) ∷ [] }) }
     requires second { held_of store.now 2 ≡ Some (record { tag = 2; class = 1; fields = Whole (pos 7) ∷ [] }) }

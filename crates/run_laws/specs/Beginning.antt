@@ -1,4 +1,4 @@
--- What a right side begins with.
+-- The state in which a right side begins.
 use Rattle.std.specs.Prelude.{◌≡◌, All, Contains, slice_get, Some}
 use Rattle.ops_base.specs.declared.direct.Partial.{Partial}
 use Rattle.ops_base.specs.declared.rules.Inst.{Inst}
@@ -11,8 +11,8 @@ use Rattle.ops_meaning.specs.Acting.{Setting, Given, begun}
 abbrev pub begun_match : Setting → Given → Inst → Partial
 begun_match s g i = record { tags = i.tags; bindings = (begun s i g).bindings }
 
--- The instantiation is of a rule. The walk over the rule's conditions ends at these tags with these
--- bindings, and with no others. The cells hold the elements of these tags, each of which is in working memory.
+-- The instantiation is of a rule. The walk over the rule's conditions ends at these tags with these bindings, and with
+-- no others. The cells hold the elements with these tags, each of which is in working memory.
 pub record BeginsAsMatched (s : Setting) (g : Given) (i : Inst) : Type 0 where
   pub rule : Rule
   pub there : slice_get s.rules i.rule ≡ Some rule

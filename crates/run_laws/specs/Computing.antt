@@ -1,4 +1,4 @@
--- What small formulas give.
+-- The results of small formulas.
 use Rattle.std.specs.Prelude.{◌≡◌, ℕ, zero, suc, ℤ, pos, ◌-ℤ◌, Ok, Err}
 use Rattle.ops_base.specs.declared.endings.ActKind.TheVariants.{Overflow, ZeroDivisor}
 use Rattle.ops_base.specs.declared.expression.Op.TheVariants.{Add, Sub, Mul, Div, Rem}
@@ -8,7 +8,7 @@ use Rattle.ops_base.specs.Expression.{Formula, number, variable, apply}
 use Rattle.ops_base.specs.Values.{nil}
 use Rattle.ops_meaning.specs.Computing.{Computed, computed}
 
--- the first variable is 7, and each other one is `nil`
+-- the first variable is 7, and every other one is `nil`
 abbrev pub valued : ℕ → Value
 valued zero = Whole (pos 7)
 valued (suc v) = nil
@@ -19,14 +19,15 @@ Gives f result = computed valued f ≡ result
 abbrev pub minus : ℕ → ℤ
 minus n = pos 0 -ℤ pos n
 
--- this number, and the same below zero
+-- this number; below, the same number negated
 abbrev pub whole : ℕ → Formula
 whole n = number (pos n)
 
 abbrev pub below : ℕ → Formula
 below n = number (minus n)
 
--- Sums, differences and products are exact, or too large. The largest number is 170141183460469231731687303715884105727.
+-- Sums, differences and products are exact, or they are too large. The largest number is
+-- 170141183460469231731687303715884105727.
 abbrev pub SumsAre : Type 0
 SumsAre =
     Gives (apply Add (whole 3) (whole 4)) (Ok (Whole (pos 7)))
@@ -52,7 +53,7 @@ QuotientsAre =
     × Gives (apply Rem (whole 1) (whole 0)) (Err ZeroDivisor)
     × Gives (apply Rem (below 170141183460469231731687303715884105728) (below 1)) (Ok (Whole (pos 0)))
 
--- The right operand comes first; a variable alone gives its value, also a symbol.
+-- The right operand is computed first. A variable alone has its value as the result, even if that is a symbol.
 abbrev pub OperandsAre : Type 0
 OperandsAre =
     Gives (apply Mul (whole 2) (apply Add (whole 3) (variable 0))) (Ok (Whole (pos 20)))

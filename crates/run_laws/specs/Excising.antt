@@ -1,4 +1,4 @@
--- What `excise` takes out by names, and which names it tells.
+-- What `excise` removes by names, and which names it reports.
 use Rattle.std.specs.Prelude.{ℕ, zero, suc, List, [], ◌∷◌, map, filter, if◌then◌else◌, Bool, not, ◌==◌, ◌||◌, Option, Some, None, option_map, IsTrue}
 use Rattle.std.specs.List.{filter_map, list_any}
 use Rattle.ops_base.specs.declared.rules.Inst.{Inst}
@@ -8,7 +8,7 @@ use Rattle.ops_base.specs.Live.{renumbered}
 use Rattle.ops_base.specs.Valid.{are_distinct}
 use Rattle.ops_meaning.specs.Running.{Earlier, Session}
 
--- no two productions have one name
+-- no two productions have the same name
 abbrev pub AreNamedApart : List Rule → Type 0
 AreNamedApart rules = IsTrue (are_distinct (map (λ r. r.name.0) rules))
 
@@ -25,28 +25,28 @@ has_name rules name = list_any (λ r. r.name.0 == name.0) rules
 
 -- ---- what is left
 
--- of what stands beside the productions one by one, that of the productions that do not go
+-- given one entry for each production, the entries of the productions that do not go
 abbrev pub left_beside : {X : Type 0} → (Rule → Bool) → List Rule → List X → List X
 left_beside goes rules [] = []
 left_beside goes [] (x ∷ xs) = x ∷ xs
 left_beside goes (r ∷ rules) (x ∷ xs) = if goes r then left_beside goes rules xs else x ∷ left_beside goes rules xs
 
--- the number that a production has among those that do not go, none where it goes
+-- the number that a production has among those that do not go, or none if it goes
 abbrev pub left_number : (Rule → Bool) → List Rule → ℕ → Option ℕ
 left_number goes [] n = Some n
 left_number goes (r ∷ rules) zero = if goes r then None else Some zero
 left_number goes (r ∷ rules) (suc n) = if goes r then left_number goes rules n else option_map suc (left_number goes rules n)
 
--- an instantiation under the new number of its production, none where that goes
+-- an instantiation under the new number of its production, or none if that goes
 abbrev pub left_inst : (Rule → Bool) → List Rule → Inst → Option Inst
 left_inst goes rules i = option_map (renumbered i) (left_number goes rules i.rule)
 
--- the trail where one of these productions goes, which empties it, or none does
+-- the trail: emptied if one of these productions goes, and otherwise unchanged
 abbrev pub trail_left : (Rule → Bool) → List Rule → Option (List Earlier) → Option (List Earlier)
 trail_left goes rules trail = if list_any goes rules then option_map (λ es. []) trail else trail
 
--- Those productions are left that do not go, in their order, each with its break and its marks. Where one goes the trail
--- is emptied. All else stays.
+-- The productions that do not go are left, in their order, each with its break and its marks. If one goes, the trail is
+-- emptied. Everything else stays.
 abbrev pub left_by : (Rule → Bool) → Session → Session
 left_by goes k = record k {
   rules = filter (λ r. not (goes r)) k.rules;
@@ -55,9 +55,9 @@ left_by goes k = record k {
   trail = trail_left goes k.rules k.trail;
 }
 
--- ---- which names are told
+-- ---- which names are reported
 
--- of these names those that no production has, or that stood before
+-- those of these names that no production has, or that came before
 abbrev pub names_told : List Rule → List Sym → List Sym → List Sym
 names_told rules before [] = []
 names_told rules before (name ∷ names) =

@@ -1,5 +1,5 @@
--- What productions and commands name is there: each variable, cell and class, and the number of each field. So nothing
--- is met of what the definitions take where one of these is absent.
+-- What productions and commands name exists: each variable, cell and class, and the number of each field. So the values
+-- that the definitions use if one of these is absent never occur.
 use Rattle.std.specs.Prelude.{◌≡◌, ℕ, List, [], ◌∷◌, Bool, true, false, ◌&&◌, ◌||◌, Some, None, slice_get, is_some, unwrap_or, option_map, Contains, IsTrue, IfOk}
 use Rattle.std.specs.List.{flat_map, list_all, list_any}
 use Rattle.ops_base.specs.declared.actions.Action.{Action}
@@ -32,7 +32,7 @@ use Rattle.ops_base.specs.WorkingMemory.{change_done}
 use Rattle.ops_io.specs.Output.{column_after}
 use Rattle.ops_meaning.specs.Acting.{Setting, ActState, cell_of, element_of, action_done}
 
--- there is a class of this number
+-- there is a class with this number
 abbrev pub is_class : List Class → ℕ → Bool
 is_class classes n = is_some (slice_get classes n)
 
@@ -44,11 +44,11 @@ operand_finds bindings (operand.Constant v) = true
 operand_finds bindings (operand.OneOf vs) = true
 operand_finds bindings (operand.Variable v) = is_some (value_of bindings v)
 
--- the field is one of the class, and a test that does not bind its variable finds it bound
+-- the field is one of the class, and if the test does not bind its variable, the variable is already bound
 abbrev pub test_finds : Class → Test → List Binding → Bool
 test_finds c t bindings = is_field c t.field && (t.binds || operand_finds bindings t.operand)
 
--- each test that the element comes to, in the order of the tests
+-- each test that is reached for the element, in the order of the tests
 abbrev pub tests_find : Class → Element → List Test → List Binding → Bool
 tests_find c e [] bindings = true
 tests_find c e (t ∷ ts) bindings =
@@ -57,8 +57,8 @@ tests_find c e (t ∷ ts) bindings =
 abbrev pub condition_finds : List Class → Condition → List Binding → Element → Bool
 condition_finds classes c bindings e = is_class classes c.class && tests_find (class_of classes c.class) e c.tests bindings
 
--- From these bindings on, at each member of a group to which elements that meet those before it lead, each test that an
--- element comes to finds all that it names.
+-- Starting with these bindings: for each member of a group that is reached by way of elements that meet the members
+-- before it, each test that is reached for an element finds everything that it names.
 abbrev pub MembersFind : List Class → List Element → List Condition → List Binding → Type 0
 MembersFind classes wm [] bindings = Unit {0}
 MembersFind classes wm (c ∷ cs) bindings =
@@ -66,14 +66,14 @@ MembersFind classes wm (c ∷ cs) bindings =
     → IsTrue (condition_finds classes c bindings e)
     × ((next : List Binding) → match_of c e bindings ≡ Some next → MembersFind classes wm cs next)
 
--- the same at each condition of a part
+-- the same for each condition of a part
 abbrev pub PartFinds : List Class → List Element → Part → List Binding → Type 0
 PartFinds classes wm (One c) bindings =
     (e : Element) → Contains wm e → IsTrue (condition_finds classes c bindings e)
 PartFinds classes wm (Group cs) bindings = MembersFind classes wm cs bindings
 
--- From these partial matches on, at each condition that the walk comes to, members of groups among them, each test that
--- an element comes to finds all that it names.
+-- Starting with these partial matches: for each condition that the walk reaches, including members of groups, each test
+-- that is reached for an element finds everything that it names.
 abbrev pub WalkFinds : List Class → List Element → List Part → List Partial → Type 0
 WalkFinds classes wm [] ps = Unit {0}
 WalkFinds classes wm (part ∷ parts) ps =
@@ -81,7 +81,7 @@ WalkFinds classes wm (part ∷ parts) ps =
     × WalkFinds classes wm parts (flat_map (at_part wm part) ps)
 
 -- Elements of working memory, one for each condition, lead from the one bindings to the other: each meets its condition
--- under the bindings that those before it left.
+-- under the bindings that result from those before it.
 abbrev pub LeadTo : List Element → List Condition → List Binding → List Binding → Type 0
 LeadTo wm [] from to = from ≡ to
 LeadTo wm (c ∷ cs) from to =
@@ -93,7 +93,7 @@ LeadTo wm (c ∷ cs) from to =
 abbrev pub is_bound : ActState → ℕ → Bool
 is_bound d v = is_some (value_of d.bindings v)
 
--- the cell holds an element, whose class is there
+-- the cell holds an element whose class exists
 abbrev pub is_held : List Class → ActState → ℕ → Bool
 is_held classes d cell = is_some (slice_get d.cells cell) && is_class classes (cell_of d cell).class
 
@@ -109,7 +109,7 @@ is_add (change.Remove tag) = false
 abbrev pub has_made : ActState → Bool
 has_made d = list_any is_add d.changes
 
--- a term that gives one value, whatever there is
+-- a term that gives exactly one value in every state
 abbrev pub is_single : Term → Bool
 is_single (term.Rest cell) = false
 is_single _ = true
@@ -132,9 +132,9 @@ item_finds classes d item.Crlf = true
 item_finds classes d (item.TabTo n) = true
 item_finds classes d (item.RightIn n) = true
 
--- Each variable that the action evaluates is bound, each cell that it names holds an element, each class that it names
--- is there, and so is that of each such element, and each field is one of its class. The term of `bind` gives one
--- value, and where a cell is bound to the element that was made last, one was made.
+-- Each variable that the action evaluates is bound, and each cell that it names holds an element. Each class that it
+-- names exists, and so does the class of each such element. Each field is one of its class. The term of `bind` gives
+-- exactly one value. If the action binds a cell to the element that was made last, an element was made.
 abbrev pub action_finds : List Class → ActState → Action → Bool
 action_finds classes d (action.Make class puts) =
     is_class classes class && list_all (put_finds classes d (class_of classes class)) puts
@@ -147,14 +147,14 @@ action_finds classes d (action.Cbind cell) = has_made d
 action_finds classes d action.Halt = true
 action_finds classes d (action.Build template holes) = list_all (λ h. is_bound d h.variable) holes
 
--- From a column and a state on, P holds of each action with the state to which those before it lead.
+-- Starting from a column and a state, P holds of each action with the state to which the actions before it lead.
 abbrev pub EachAction : (Action → ActState → Type 0) → Setting → ℕ → List Action → ActState → Type 0
 EachAction P s column [] d = Unit {0}
 EachAction P s column (a ∷ rest) d =
     let e = action_done s column a d in
     P a d × IfOk e.outcome (λ next. EachAction P s (column_after column e.bytes) rest next)
 
--- Each action finds all that it names.
+-- Each action finds everything that it names.
 abbrev pub AllFind : Setting → ℕ → List Action → ActState → Type 0
 AllFind s column actions d = EachAction (λ a d. IsTrue (action_finds s.classes d a)) s column actions d
 
@@ -163,7 +163,7 @@ abbrev pub SeesTheSame : ActState → ActState → Type 0
 SeesTheSame old new =
     (new.bindings ≡ old.bindings) × (new.cells ≡ old.cells) × (new.changes ≡ old.changes) × (new.wm ≡ old.wm)
 
--- each removal names an element that is there when it is done, which a trace can show
+-- each removal names an element that is present when the removal is made, so that a trace can show it
 abbrev pub RemovalsFind : List Element → List Change → Type 0
 RemovalsFind wm [] = Unit {0}
 RemovalsFind wm (change.Add e ∷ cs) = RemovalsFind (change_done wm (change.Add e)) cs
@@ -172,11 +172,11 @@ RemovalsFind wm (change.Remove tag ∷ cs) =
 
 -- ---- commands
 
--- the attribute is one of the class, and a scalar one is given a value
+-- the attribute is one of the class, and if it is scalar, it is given a value
 abbrev pub fixed_finds : Class → Fixed → Bool
 fixed_finds c p = is_attribute c p.field && (is_vector c p.field || is_some (slice_get p.values 0))
 
--- the class that the command names is there, and so are the attributes
+-- the class that the command names exists, and so do the attributes
 abbrev pub command_finds : List Class → Command → Bool
 command_finds classes (command.Make class puts) =
     is_class classes class && list_all (fixed_finds (class_of classes class)) puts

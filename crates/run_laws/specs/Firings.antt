@@ -1,4 +1,4 @@
--- What holds of each firing of a session.
+-- Properties of each firing of a session.
 use Rattle.std.specs.Prelude.{ℕ, zero, suc, ◌+◌, ◌-◌, List, [], ◌∷◌, Option, Some, None, IfOk}
 use Rattle.std.specs.Bool.{MatchBool}
 use Rattle.ops_base.specs.declared.actions.Action.{Action}
@@ -16,14 +16,14 @@ use Rattle.run_laws.specs.Beginning.{BeginsAsMatched}
 use Rattle.run_laws.specs.Elements.{AreWhole}
 use Rattle.run_laws.specs.Finding.{AllFind, EachAction}
 
--- P holds of the instantiation that is next, where the run goes on.
+-- P holds of the next instantiation, if the run continues.
 abbrev pub IfGoesOn : Option (List ℕ) → Option Inst → (Inst → Type 0) → Type 0
 IfGoesOn (Some line) next P = Unit {0}
 IfGoesOn None None P = Unit {0}
 IfGoesOn None (Some i) P = P i
 
 -- P holds of each firing of a run from here on: of its setting, of the column at which it begins, of the instantiation
--- that fires, and of what the session has come to before it.
+-- that fires, and of the point that the session has reached before it.
 abbrev pub EachOfRun : (Setting → ℕ → Inst → Course → Type 0) → ℕ → Setting → ℕ → Option LastFiring → Option ℕ → Session → Type 0
 EachOfRun P zero s column last count k = Unit {0}
 EachOfRun P (suc left) s column last count k =
@@ -51,7 +51,7 @@ EachOfCommands P s limit column (c ∷ rest) k =
 abbrev pub EachFiring : (Setting → ℕ → Inst → Course → Type 0) → Setting → ℕ → List Command → Spellings → Coming → Type 0
 EachFiring P s limit commands names coming = EachOfCommands P s limit 0 commands (begun commands s.rules names coming)
 
--- the column at which the right side of a firing begins to write, where the firing begins at this one
+-- the column at which the right side of a firing begins to write, if the firing begins at this one
 abbrev pub column_after_line : Setting → ℕ → Inst → Course → ℕ
 column_after_line s column i m = column_after column (firing_bytes s.watch column m.names s.rules (m.firings + 1) i)
 
@@ -59,8 +59,8 @@ column_after_line s column i m = column_after column (firing_bytes s.watch colum
 abbrev pub HoldWhole : Setting → ℕ → List Action → ActState → Type 0
 HoldWhole s column actions d = EachAction (λ a d. AreWhole s.classes d.cells) s column actions d
 
--- In a firing the elements of working memory are whole, and those of the cells too, the right side begins as matched,
--- and it finds all that it names.
+-- In a firing, the elements of working memory and those of the cells are whole, the right side begins as matched, and
+-- it finds everything that it names.
 pub record FindsAll (s : Setting) (column : ℕ) (i : Inst) (m : Course) : Type 0 where
   pub whole : AreWhole s.classes m.wm
   pub begins : BeginsAsMatched s (given_by m) i

@@ -1,4 +1,4 @@
--- What the laws of running cite.
+-- What the laws of running refer to.
 pub mod Programs
 pub mod Beginning
 pub mod Ending

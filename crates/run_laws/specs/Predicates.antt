@@ -1,4 +1,4 @@
--- Of which values each predicate holds.
+-- For which values each predicate holds.
 use Rattle.std.specs.Prelude.{◌≡◌, Bool, true, false, pos, ◌-ℤ◌}
 use Rattle.ops_base.specs.declared.values.Pred.{Pred}
 use Rattle.ops_base.specs.declared.values.Pred.TheVariants.{Eq, Ne, Lt, Le, Gt, Ge, SameKind}
@@ -6,7 +6,7 @@ use Rattle.ops_base.specs.declared.values.Value.{Value}
 use Rattle.ops_base.specs.declared.values.Value.TheVariants.{Symbol, Whole}
 use Rattle.ops_base.specs.Values.{holds_of}
 
--- two symbols, and two numbers of which the first is the smaller one
+-- two symbols, and two numbers, the first of which is smaller
 abbrev pub red : Value
 red = Symbol (record { 0 = 4 })
 
@@ -19,19 +19,19 @@ low = Whole (pos 0 -ℤ pos 10)
 abbrev pub high : Value
 high = Whole (pos 9)
 
--- What a predicate says of a symbol and itself, and of two symbols.
+-- Whether a predicate holds of a symbol and itself, and of two symbols.
 abbrev pub OfSymbols : Pred → (same others : Bool) → Type 0
 OfSymbols p same others = (holds_of p red red ≡ same) × (holds_of p red green ≡ others) × (holds_of p green red ≡ others)
 
--- What it says of a number and itself, of a smaller and a greater one, and of a greater and a smaller one.
+-- Whether it holds of a number and itself, of a smaller and a greater one, and of a greater and a smaller one.
 abbrev pub OfNumbers : Pred → (same rising falling : Bool) → Type 0
 OfNumbers p same rising falling = (holds_of p high high ≡ same) × (holds_of p low high ≡ rising) × (holds_of p high low ≡ falling)
 
--- What it says of a symbol and a number, in both orders.
+-- Whether it holds of a symbol and a number, in either order.
 abbrev pub OfBoth : Pred → Bool → Type 0
 OfBoth p says = (holds_of p red high ≡ says) × (holds_of p high red ≡ says)
 
--- A symbol equals itself alone, and never a number.
+-- A symbol equals only itself, and never a number.
 abbrev pub EqualityHolds : Type 0
 EqualityHolds =
     (OfSymbols Eq true false × OfNumbers Eq true false false × OfBoth Eq false)
@@ -45,6 +45,6 @@ OrderHolds =
     × (OfSymbols Gt false false × OfNumbers Gt false false true × OfBoth Gt false)
     × OfSymbols Ge false false × OfNumbers Ge true false true × OfBoth Ge false
 
--- Symbols are of one kind, and numbers of another.
+-- Symbols are of one kind, and numbers are of another.
 abbrev pub KindHolds : Type 0
 KindHolds = OfSymbols SameKind true true × OfNumbers SameKind true true true × OfBoth SameKind false

@@ -1,4 +1,4 @@
--- Where the values come from that `--why` prints.
+-- The origin of the values that `--why` prints.
 use Rattle.std.specs.Prelude.{◌≡◌, ℕ, ◌-◌, ◌≤◌, List, ◌++◌, codes, length, map, take, false, All, Contains, Option, Some, option_and_then, slice_get, unwrap_or}
 use Rattle.std.specs.List.{join_by}
 use Rattle.ops_base.specs.declared.conditions.Condition.{Condition}
@@ -21,15 +21,16 @@ use Rattle.why_lines.specs.WhyLines.{binding_text, spots_of}
 abbrev pub tag_at : List Part → List ℕ → ℕ → Option ℕ
 tag_at parts tags place = slice_get tags (length (cells_of (take (place - 1) parts)))
 
--- the element of that tag
+-- the element with that tag
 abbrev pub element_at : List Element → List Part → List ℕ → ℕ → Element
 element_at wm parts tags place = unwrap_or (option_and_then (element_of wm) (tag_at parts tags place)) no_element
 
--- what this field of it holds
+-- the value of this field of that element
 abbrev pub value_at : List Element → List Part → List ℕ → ℕ → ℕ → Value
 value_at wm parts tags place field = field_of (element_at wm parts tags place) field
 
--- At this place is a positive condition of this class, and the element there is one of working memory and of this class.
+-- At this place there is a positive condition of this class, and the element there is in working memory and of this
+-- class.
 pub record IsThere (wm : List Element) (parts : List Part) (tags : List ℕ) (place class : ℕ) : Type 0 where
   pub counted : 1 ≤ place
   pub condition : Condition
@@ -40,14 +41,14 @@ pub record IsThere (wm : List Element) (parts : List Part) (tags : List ℕ) (pl
   pub element : Contains wm (element_at wm parts tags place)
   pub is_of : (element_at wm parts tags place).class ≡ class
 
--- The values are, one by one, what the fields hold that the spots of the rule name, and the element of each spot is
--- there.
+-- The values are, one by one, the values of the fields that the spots of the rule name, and the element of each spot
+-- exists.
 pub record AreTold (rules : List Rule) (wm : List Element) (i : Inst) (values : List Value) : Type 0 where
   pub values_are : values ≡ map (λ s. value_at wm (parts_of rules i.rule) i.tags s.place s.field) (spots_of rules i.rule)
   pub there : All (λ s. IsThere wm (parts_of rules i.rule) i.tags s.place s.class) (spots_of rules i.rule)
 
--- The line of an instantiation: for each spot of its rule the place, the attribute and what the field holds, with `;`
--- between two.
+-- The line of an instantiation: for each spot of its rule, the place, the attribute and the value of the field,
+-- separated by `;`.
 abbrev pub told_line : Spellings → List Class → List Rule → List Element → Inst → List ℕ
 told_line names classes rules wm i =
     codes "why " ++ inst_text names rules i ++ codes ":"

@@ -1,11 +1,11 @@
--- Firings one after another, and what `back` makes of them.
+-- Consecutive firings, and how `back` undoes them.
 use Rattle.std.specs.Prelude.{◌≡◌, ℕ, zero, suc, Some, None, Ok}
 use Rattle.ops_base.specs.declared.rules.Inst.{Inst}
 use Rattle.ops_meaning.specs.Acting.{Setting}
 use Rattle.ops_meaning.specs.Running.{Session, Turned, fired_on, firing, next_to_fire}
 
--- This many firings, one after another, lead from the one session to the other. Each is of the instantiation that is
--- next, whatever the column is at which it begins.
+-- This many consecutive firings lead from the one session to the other. Each is of the next instantiation, whatever the
+-- column at which it begins.
 abbrev pub FireTo : Setting → ℕ → Session → Session → Type 0
 FireTo s zero k done = k ≡ done
 FireTo s (suc n) k done =
@@ -13,9 +13,9 @@ FireTo s (suc n) k done =
     × (next_to_fire s.rules k.course ≡ Some i) × ((firing s column i k.course).outcome ≡ Ok t)
     × FireTo s n (fired_on t.course k) done
 
--- After firings and a `back` working memory, the marks, the last tag and the names are as they were before the firings.
--- The number of firings, the strategy, the input, the productions in force, the trace level and the breaks are as the
--- firings left them.
+-- After firings and a `back`, working memory, the marks, the last tag and the names are as they were before the
+-- firings. The number of firings, the strategy, the input, the productions in force, the trace level and the breaks are
+-- as the firings left them.
 pub record IsUndone (before fired after : Session) : Type 0 where
   pub memory : after.course.wm ≡ before.course.wm
   pub marks : after.course.fired ≡ before.course.fired

@@ -1,4 +1,4 @@
-//! What holds of programs by the definitions of running: the contracts of functions that do nothing.
+//! Laws about programs, from the definitions of running alone: the contracts of functions that do nothing.
 ghost use Rattle.std.specs.Prelude.{◌≡◌, ℕ, ◌+◌, ◌<◌, ◌≤◌, List, [], ◌∷◌, ◌++◌, length, drop, filter, map, not, ◌==◌, slice_get, Some, if◌then◌else◌, Option, None, is_some, Ok, Bool, Contains, IsTrue, IfOk, true, false};
 ghost use Rattle.std.specs.List.{filter_map, list_all, list_any};
 ghost use Rattle.ops_base.specs.declared.actions.Action.{Action};
@@ -55,22 +55,22 @@ ghost use Rattle.why.specs.Partials.{AreUpTo};
 ghost use Rattle.why_lines.specs.WhyLines.{rule_lines};
 
 /// A right side begins with the bindings with which the walk over its conditions accepted the instantiation, and with
-/// its elements in the cells.
+/// the instantiation's elements in the cells.
 pub fn right_sides_begin_as_matched()
     ensures { (s : Setting) (g : Given) (i : Inst)
         → HasRisingTags g.wm → Contains (conflict_set s.rules g.wm) i → BeginsAsMatched s g i }
 {}
 
-/// In a valid program each test that an element comes to, also at a member of a group, finds its class, the number of
-/// its field, and the variable that it compares with.
+/// In a valid program, each test that is reached for an element, also at a member of a group, finds its class, the
+/// number of its field, and the variable that it compares with.
 pub fn left_sides_find_what_they_name()
     ensures { (s : Setting) (commands : List Command) (wm : List Element) (n : ℕ) (r : Rule)
         → AreValid s commands → slice_get s.rules n ≡ Some r → WalkFinds s.classes wm r.conditions (empty_partial ∷ []) }
 {}
 
-/// In a valid program each action of a right side finds, in the state that it comes to, all that it names: variables,
-/// cells, classes and numbers of fields. A term leaves the bindings, the cells, the changes and working memory as they
-/// are, and gives one value but where it is all of a vector attribute.
+/// In a valid program, each action of a right side finds everything that it names in the state in which it is reached:
+/// variables, cells, classes and numbers of fields. A term leaves the bindings, the cells, the changes and working
+/// memory as they are. It gives exactly one value, unless it is all the values of a vector attribute.
 pub fn right_sides_find_what_they_name()
     ensures actions { (s : Setting) (commands : List Command) (column : ℕ) (g : Given) (i : Inst)
         → AreValid s commands → HasRisingTags g.wm → Contains (conflict_set s.rules g.wm) i
@@ -81,9 +81,10 @@ pub fn right_sides_find_what_they_name()
         → IsTrue (is_single t) → IfOk (evaluated classes t d) (λ v. length v.values ≡ 1) }
 {}
 
-/// In each firing of a session of a valid program the elements of working memory and of the cells have just the fields
-/// of their classes, and the right side begins as matched and finds all that it names. So it is in any firing that a
-/// run goes on with. A session that finishes leaves such elements.
+/// In each firing of a session of a valid program, the elements of working memory and of the cells have exactly the
+/// fields of their classes, the right side begins as matched, and it finds everything that it names. The same holds of
+/// any firing with which a run continues. The elements that a session leaves when it finishes have exactly the fields
+/// of their classes, too.
 pub fn firings_find_what_they_name()
     ensures firings { (s : Setting) (limit : ℕ) (commands : List Command) (names : Spellings) (coming : Coming)
         → AreValid s commands → EachFiring FindsAll s limit commands names coming }
@@ -96,8 +97,8 @@ pub fn firings_find_what_they_name()
         → IfOk (session_of s limit commands names coming).outcome (λ k. AreWhole s.classes k.course.wm) }
 {}
 
-/// Values that are placed from a field on stand there, and the others stay, where that field is not past the end. That
-/// of an attribute is not, where the fields are those of its class.
+/// If values are placed from a field on that is not past the end, they are in those fields afterwards, and the other
+/// fields are unchanged. The field of an attribute is not past the end if the fields are those of its class.
 pub fn values_stand_where_they_are_placed()
     ensures stand { (at : ℕ) (values old new : List Value)
         → at ≤ length old → values_placed at values old ≡ Some new → StandAt at values old new }
@@ -105,13 +106,14 @@ pub fn values_stand_where_they_are_placed()
         → IsTrue (is_attribute c field) → AreFieldsOf c values → field ≤ values }
 {}
 
-/// In a valid program each command finds the class and the attributes that it names, with a value for each scalar one.
+/// In a valid program, each command finds the class and the attributes that it names, and has a value for each scalar
+/// one.
 pub fn commands_find_what_they_name()
     ensures { (s : Setting) (commands : List Command)
         → AreValid s commands → IsTrue (list_all (command_finds s.classes) commands) }
 {}
 
-/// What an action or a command removes is there when it is removed, so that a trace can show it.
+/// An element that an action or a command removes is present when it is removed, so that a trace can show it.
 pub fn removals_find_what_they_name()
     ensures actions { (s : Setting) (column : ℕ) (a : Action) (d : ActState)
         → IfOk (action_done s column a d).outcome (λ next. RemovalsFind d.wm (drop (length d.changes) next.changes)) }
@@ -119,21 +121,21 @@ pub fn removals_find_what_they_name()
     ensures all { (wm : List Element) → HasRisingTags wm → RemovalsFind wm (map Remove (tags_of wm)) }
 {}
 
-/// In a valid program dominance finds what it looks at in each member of the conflict set.
+/// In a valid program, dominance finds what it examines in each member of the conflict set.
 pub fn instantiations_have_ranks()
     ensures { (s : Setting) (commands : List Command) (wm : List Element) (i : Inst)
         → AreValid s commands → HasRisingTags wm → Contains (conflict_set s.rules wm) i → HasRank s.rules i }
 {}
 
-/// Whatever the program, no session ends in a refused write or as out of memory. It ends in a read fault only if its
+/// Whatever the program, no session ends with a refused write or out of memory. It ends with a read fault only if its
 /// input fails.
 pub fn only_the_input_fails()
     ensures { (s : Setting) (limit : ℕ) (commands : List Command) (names : Spellings) (coming : Coming)
         → IsOfSession coming.fails (ending_of (session_of s limit commands names coming).outcome) }
 {}
 
-/// `ppwm` with a pattern shows the elements that a positive condition with these constants would match, in the order of
-/// their tags.
+/// With a pattern, `ppwm` shows the elements that a positive condition with these constants would match, in the order
+/// of their tags.
 pub fn patterns_match_as_conditions()
     ensures meets { (class : ℕ) (puts : List Fixed) (e : Element) (bindings : List Binding)
         → match_of (condition_with class puts) e bindings ≡ (if meets (Some (class, puts)) e then Some bindings else None) }
@@ -144,7 +146,8 @@ pub fn patterns_match_as_conditions()
         → HasRisingTags wm → HasRisingTags (meeting (condition_with class puts) wm) }
 {}
 
-/// What `cs` lists is a ranking of the members of the conflict set that have not fired, and no other list is one.
+/// The list that `cs` prints is a ranking of the members of the conflict set that have not fired, and no other list is
+/// one.
 pub fn standing_is_ranked()
     ensures listed { (s : Setting) (limit column : ℕ) (k : Session)
         → command_done s limit column Command.Cs k
@@ -155,8 +158,9 @@ pub fn standing_is_ranked()
         → HasRisingTags m.wm → IsRanking rules m other → other ≡ standing_by (conflict_set rules) rules m }
 {}
 
-/// What is said of each test, each condition, each member of a group and each action in turn is said of any that is come
-/// to, after those before it. What is said of each firing of a session is said of any firing that a run goes on with.
+/// A property proved of each test, each condition, each member of a group and each action in turn holds of every one
+/// that is reached after those before it. A property proved of each firing of a session holds of every firing with
+/// which a run continues.
 pub fn nothing_is_passed_over()
     ensures tests { (c : Class) (e : Element) (before after : List Test) (t : Test) (bindings next : List Binding)
         → IsTrue (tests_find c e (before ++ t ∷ after) bindings) → after_tests before e bindings ≡ Some next
@@ -180,7 +184,7 @@ pub fn nothing_is_passed_over()
         → (column : ℕ) × IsTrue (test (record (in_force s k) { watch = k.watch }) column i k.course) }
 {}
 
-/// Small formulas with what they give: numbers at the limit, quotients and remainders by their signs, and the order in
+/// Small formulas with their results: numbers at the limit, quotients and remainders of each sign, and the order in
 /// which operands are computed.
 pub fn formulas_give()
     ensures sums { SumsAre }
@@ -188,17 +192,18 @@ pub fn formulas_give()
     ensures operands { OperandsAre }
 {}
 
-/// Of which symbols and numbers each predicate holds.
+/// For which symbols and numbers each predicate holds.
 pub fn predicates_hold()
     ensures equality { EqualityHolds }
     ensures order { OrderHolds }
     ensures kind { KindHolds }
 {}
 
-/// If a production is taken out, those stand that stood before and are of other productions, under the new numbers of
-/// these. If one is added under a name that no production has, its instantiations stand beside those that stood. If a
-/// production has its name, that one is taken out first. In each case the others stay in their order of dominance. The
-/// marks of a session are of productions in force.
+/// In these laws, an instantiation stands if it is in the conflict set and has not fired. If a production is removed,
+/// exactly the instantiations of the other productions that stood before still stand, under the new numbers of their
+/// productions. If one is added under a name that no production has, its instantiations stand in addition to those that
+/// stood. If a production has its name, that one is removed first. In each case, the others stay in their order of
+/// dominance. The marks of a session are marks of productions in force.
 pub fn others_stand_as_before()
     ensures taken { (n : ℕ) (k : Session) → stands_in (taken_out n k) ≡ moved_insts n (stands_in k) }
     ensures added { (r : Rule) (k : Session) → rule_named k.rules r.name ≡ None → AreOf k.rules k.course.fired
@@ -217,8 +222,9 @@ pub fn others_stand_as_before()
 {}
 
 /// `excise` leaves exactly the productions that have none of its names, in their order, each with its break and its
-/// marks under its new number, and changes nothing else. What stands of them stays in its order of dominance. It tells
-/// a name that no production has, and one that it was given before. No two productions of a session have one name.
+/// marks under its new number, and changes nothing else. Of their instantiations, those that stand stay in their order
+/// of dominance. It reports each name that no production has, and each name that was given before. No two productions
+/// of a session have the same name.
 pub fn excise_takes_out_what_it_names()
     ensures excised { (s : Setting) (limit column : ℕ) (names : List Sym) (k : Session)
         → AreNamedApart k.rules
@@ -236,15 +242,15 @@ pub fn excise_takes_out_what_it_names()
         → AreValid s (before ++ after) → IfOk (session_of s limit before names coming).outcome (λ k. AreNamedApart k.rules) }
 {}
 
-/// What `matches` lists of a production up to a part are the tags of all partial matches of the parts so far, and nothing
-/// else, in lexicographic order, each once.
+/// For a production and a number of its parts, `matches` lists the tags of all partial matches of the parts so far, and
+/// nothing else, in lexicographic order, each once.
 pub fn partial_matches_are_listed()
     ensures { (rules : List Rule) (wm : List Element) (rule k : ℕ)
         → HasRisingTags wm → rule < length rules → AreUpTo rules wm rule k (partial_tags wm (left_side rules rule) k) }
 {}
 
-/// The values that an instantiation binds are, one by one, what the fields hold that `--why` names before them: each is
-/// of the element that the instantiation has at that place. So a line of `--why` leaves none out.
+/// The values that an instantiation binds are, one by one, the values of the fields that `--why` names before them.
+/// Each is from the element that the instantiation has at that place. So a line of `--why` omits none of them.
 pub fn bindings_are_told()
     ensures bound { (rules : List Rule) (wm : List Element) (i : Inst) (values : List Value)
         → HasRisingTags wm → Binds rules wm i values → AreTold rules wm i values }
@@ -256,9 +262,9 @@ pub fn bindings_are_told()
         → rule_lines names classes rules rule (Found found) ≡ map (told_line names classes rules wm) (insts_in found) }
 {}
 
-/// `back` undoes firings. After up to 32 of them, one after another, it brings back working memory, the marks, the last
-/// tag and the names as they were before, leaves all else, and prints nothing. A run makes such firings. Where fewer are
-/// kept it changes nothing and prints how many are. In a session in which no `back` stands nothing shows the trail.
+/// `back` undoes firings. After up to 32 consecutive firings, it restores working memory, the marks, the last tag and
+/// the names as they were before, changes nothing else, and prints nothing. A run makes such firings. If fewer are
+/// kept, it changes nothing and prints how many are kept. In a session without `back`, nothing depends on the trail.
 pub fn back_undoes_firings()
     ensures undone { (s t : Setting) (limit column n : ℕ) (k fired : Session)
         → is_some k.trail ≡ true → 1 ≤ n → n ≤ 32 → FireTo s n k fired

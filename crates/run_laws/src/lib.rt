@@ -1,4 +1,4 @@
-//! Laws about what programs do, proved of the definitions alone.
+//! Laws about what programs do, proved from the definitions alone.
 #![tactic(auto)]
 
 pub mod laws;

@@ -1,4 +1,4 @@
--- What a contract sees of an engine, and what holds of it between two settles.
+-- The contracts' view of an engine, and what holds of it between two settles.
 use Rattle.std.specs.Prelude.{◌≡◌, length, map}
 use Rattle.std.specs.List.{All}
 use Rattle.work_store.specs.Stored.{Stored, held_of}
@@ -8,13 +8,13 @@ use Rattle.step_core.specs.declared.world.World.{World}
 use Rattle.step_core.specs.Phases.{HoldJust, now, sums_over}
 use Rattle.step_core.specs.Worlds.{AreNumbered, placed, seen}
 
--- its network, its store, and its lines with the tasks that are under way
+-- its network, its store, and its lines with the pending tasks
 pub record Engine : Type 0 where
   pub net : Net
   pub store : Stored
   pub world : World
 
--- Nothing is under way, and the lines hold just the tokens that stand over the store.
+-- Nothing is pending, and the lines hold exactly the tokens over the store.
 pub record IsAtRest (net : Net) (s : Stored) (w : World) : Type 0 where
   pub quiet : w.counter ≡ 0
   pub numbered : AreNumbered w.lines.items

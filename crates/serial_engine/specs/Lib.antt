@@ -1,4 +1,4 @@
--- A phase on its way, and an engine at rest.
+-- A phase in progress, and an engine at rest.
 pub mod Engines
 pub mod Running
 pub mod Carrying

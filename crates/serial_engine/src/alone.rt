@@ -1,5 +1,5 @@
-//! The calling thread at work where others could help: how much it does before the rest is worth sharing.
-ghost use Rattle.std.specs.Prelude.{◌≡◌, ◌≤◌, OnOk, [], length};
+//! Work on the calling thread before others help: how much it does before the rest is worth sharing.
+ghost use Rattle.std.specs.Prelude.{◌≡◌, ◌↔◌, ◌≤◌, IsTrue, OnOk, [], length};
 ghost use Rattle.step_core.specs.Worlds.{IsReady, numbers_of, world_of};
 ghost use Rattle.serial_engine.specs.Running.{Went};
 
@@ -12,39 +12,40 @@ use step_core::World;
 use token_line::{Line, place_of};
 use work_store::Store;
 
-/// How many partners take as long to look at as the rest of a task.
+/// Examining this many partners takes as long as the rest of a task.
 const PARTNERS_OF_A_UNIT: usize = 16;
 
-/// So many tasks of a phase are done before the partners of one are counted: in a small phase that would cost more than
-/// it tells.
+/// This many tasks of a phase are performed before the partners of one are counted: in a small phase, counting would
+/// cost more than it reveals.
 const TASKS_UNSEEN: usize = 16;
 
-/// From then on the partners of one task in this many are counted, and stand for those of the tasks up to the next one.
-/// It is odd, so that in a phase whose tasks take turns all kinds are looked at.
+/// After that, the partners of one task out of this many are counted, and represent those of the tasks up to the next
+/// one. The number is odd, so that in a phase that alternates between kinds of tasks, all kinds are sampled.
 const TASKS_OF_A_LOOK: usize = 13;
 
-/// When it pays to share the rest of a phase. Work is counted in units: a task is one, and each 16 partners that it
-/// looks at are one more. A unit takes some 0.4 to 0.8 microseconds.
+/// When it pays to share the rest of a phase. Work is counted in units: a task is one unit, plus one for each 16
+/// partners that it examines. A unit takes some 0.4 to 0.8 microseconds.
 #[derive(Clone, Copy, Debug)]
 pub struct Worth {
-    /// How many units the calling thread does alone before it shares what is in hand, if that is two tasks at least.
+    /// How many units the calling thread does alone before it shares the tasks in flight, if there are at least two.
     pub alone: usize,
-    /// How many units in hand are shared at once: each task in flight is taken to be as the next one.
+    /// With this many units in flight, they are shared at once: each task in flight is assumed to cost as much as the
+    /// next one.
     pub in_hand: usize,
-    /// How many units the next task has at least, where tasks are not too light to be shared.
+    /// The least number of units of the next task at which tasks are not too light to be shared.
     pub of_a_task: usize,
 }
 
-/// What the calling thread has done of a phase.
+/// What the calling thread has done in a phase.
 #[derive(Clone, Copy)]
 struct Effort {
-    /// In units.
+    /// The work done, in units.
     done: usize,
-    /// How many tasks are done until one is looked at.
+    /// How many tasks are performed until one is sampled.
     unseen: usize,
 }
 
-/// How many partners a task looks at: the tokens on the other side of its node that have its code. Takes no memory.
+/// How many partners a task examines: the tokens on the other side of its node that have its code. Takes no memory.
 fn partners_of(net: &Net, store: &Store, lines: &[Line], task: &Task) -> usize
     requires { 1 ≤ length lines.now }
 {
@@ -67,8 +68,8 @@ fn units_of_next(net: &Net, store: &Store, world: &World) -> usize
 }
 
 impl Effort {
-    /// Counts the next task in flight. True where it, and all that is in flight with it, is worth sharing: that is
-    /// asked of those tasks alone whose partners are counted.
+    /// Counts the next task in flight. Returns true if this task and all others in flight are worth sharing. This is
+    /// checked only at tasks whose partners are counted.
     fn is_enough(&mut self, net: &Net, store: &Store, world: &World, worth: Worth) -> bool {
         self.done = self.done.saturating_add(1);
         if self.unseen > 0 {
@@ -85,14 +86,16 @@ impl Effort {
     }
 }
 
-/// Whether so many tasks are in flight that they are done before the next change is fed.
-pub fn is_room_needed(world: &World) -> bool {
+/// Whether so many tasks are in flight that they should be performed before the next change is fed.
+pub fn is_room_needed(world: &World) -> bool
+    ensures { IsTrue result ↔ TASKS_AT_ONCE ≤ length world.now.flight.items }
+{
     world.in_flight() >= TASKS_AT_ONCE
 }
 
-/// Does tasks in flight on the calling thread, from the last on, and what comes of them, until none is left or the rest
-/// is worth sharing. `enter` gets the line of each task just before it is done. It costs what its tasks cost, and looks
-/// up the partners of one in thirteen.
+/// Performs tasks in flight on the calling thread, starting with the last, and all tasks that result, until none is
+/// left or the rest is worth sharing. `enter` gets the line of each task just before it is performed. The cost is
+/// that of its tasks, plus a lookup of the partners of one task in thirteen.
 pub fn begin_alone<F: Fn(usize)>(
     alloc: Global,
     net: &Net,

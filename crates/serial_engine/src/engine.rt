@@ -1,4 +1,4 @@
-//! The serial engine: a matcher over a network, which works one task after another.
+//! The serial engine: a matcher over a network that performs one task after another.
 ghost use Rattle.std.specs.Prelude.{◌≡◌, ◌≤◌, All, IfOk, List, [], length, map};
 ghost use Rattle.work_store.specs.Stored.{held_of, nothing_stored};
 ghost use Rattle.activation.specs.Acting.{TellsOfLasts};
@@ -18,7 +18,7 @@ use step_core::{Gathered, World};
 use token_line::Line;
 use work_store::{Matcher, Settled, Store};
 
-/// What an engine is made of.
+/// The parts of an engine.
 #[derive(Drop)]
 struct Parts<G> {
     net: Net,
@@ -27,9 +27,9 @@ struct Parts<G> {
     gate: G,
 }
 
-/// A matcher over a network. Between two settles its lines hold just the tokens that stand at each node over its store,
-/// each once. The gate is called with worker 0 and the number of the line, just before each activation. An engine
-/// stands on the heap, so that it is moved at a small cost.
+/// A matcher over a network. Between two settles, its lines hold exactly the tokens at each node over its store, each
+/// once. The gate is called with worker 0 and the number of the line just before each activation. An engine is
+/// heap-allocated, so that moving it is cheap.
 #[derive(Drop)]
 pub struct SerialEngine<G> {
     parts: Box<Parts<G>>,
@@ -43,7 +43,7 @@ impl<G> Model for SerialEngine<G> {
 
     ghost Value = { Engine };
 
-    // Networks and worlds are told apart as their own types tell them.
+    // Networks and worlds are distinguished as in their own types.
     ghost coded = { Prim.hlevel (codes, nets.the_row.coded, worlds.the_row.coded) };
 
     ghost view = { λ e. record { net = e.parts.value.net; store = e.parts.value.store; world = e.parts.value.world } };
@@ -52,8 +52,8 @@ impl<G> Model for SerialEngine<G> {
 }
 
 impl<G: Drop> SerialEngine<G> {
-    /// An engine over the network with this many lines. Nothing is stored. It makes each line and looks at each node,
-    /// and takes memory for its own place.
+    /// An engine over the network with this many lines and an empty store. It makes each line and looks at each node,
+    /// and allocates its own place on the heap.
     pub fn new(
         alloc: Global,
         net: Net,
@@ -100,19 +100,20 @@ impl<G: Gate + Drop> SerialEngine<G> {
     pub fn lines(&self) -> &[Line]
         ensures lines { result.now ≡ self.now.world.lines.items }
         ensures numbered { AreNumbered result.now }
-        // They hold just the tokens over the store.
+        // They hold exactly the tokens over the store.
         ensures hold { HoldJust (placed (held_of self.now.store) self.now.net.nodes (length result.now)) (sums_over self.now.store.elements self.now.net.alphas self.now.net.nodes) (map now (map seen result.now)) }
-        // They tell of just the tasks of the last settle that came to terminals.
+        // They report exactly the tasks of the last settle that were for terminals.
         ensures told { All (TellsOfLasts self.now.net.nodes) result.now }
     {
         let parts = self.parts.as_ref();
         parts.world.lines()
     }
 
-    /// As `settle`, in an order that a test can choose. All changes are fed at once: their tasks stand in the order of
-    /// the changes, those of one change in that of their nodes. Then each pick in turn does one task in flight, that at
-    /// the place that is the pick modulo the number of these; its children come after all others. When the picks have
-    /// ended the engine goes on with what is left. The tasks of all changes are in flight together.
+    /// As `settle`, in an order that a test can choose. All changes are fed at once: their tasks are in the order of
+    /// the changes, and those of one change in the order of their nodes. Then each pick in turn performs one task in
+    /// flight: the one whose place is the pick modulo the number of tasks in flight. Its children are put after all
+    /// others. When the picks are used up, the engine goes on with what is left. The tasks of all changes are in
+    /// flight together.
     pub fn settle_by(
         self,
         alloc: Global,
@@ -177,14 +178,17 @@ impl<G: Gate + Drop> Matcher for SerialEngine<G> {
         &parts.store
     }
 
-    /// Feeds the tasks of the changes, and then does the last task in flight with all that comes of it, down to the
-    /// terminals, before the one that was fed before it. So beside the fed tasks few are in flight at a time, and the
-    /// changes are worked from the last to the first. A modification removes the old element and then adds the new one,
-    /// so here the new one comes before the old one goes: a negated node that both block puts nothing out in between.
-    /// Where the changes feed thousands of tasks, those that are fed are done before more are, so that the tasks in
-    /// flight take a few hundred kilobytes at most, and what one task puts out. It takes time for the tasks that it
-    /// does, for the lines that they were done on, and for the nodes that a change is fed to: `World::feed` and
-    /// `World::work` say how much. What it removed is kept until the next settle.
+    /// Feeds the tasks of the changes. Then it performs the last task in flight, with all tasks that result, down to
+    /// the terminals, before the one that was fed before it. So few tasks are in flight at a time beside the fed
+    /// ones, and the changes are processed from the last to the first. A modification removes the old element and
+    /// then adds the new one, so here the new one is processed before the old one: a negated node that both block
+    /// puts nothing out in between. If the changes feed thousands of tasks, those that have been fed are performed
+    /// before more are fed, so that the tasks in flight take at most a few hundred kilobytes, plus the output of one
+    /// task.
+    ///
+    /// It takes time for the tasks that it performs, for the lines that they are performed on, and for the nodes that
+    /// a change is fed to: see the costs of `World::feed` and `World::work`. Removed elements are kept until the next
+    /// settle.
     fn settle(
         self,
         alloc: Global,
@@ -197,7 +201,7 @@ impl<G: Gate + Drop> Matcher for SerialEngine<G> {
         ensures settled { IfOk result (λ s. IsSettled (found_over self.net.alphas self.net.nodes self.store.elements) (found_over s.matcher.net.alphas s.matcher.net.nodes s.matcher.store.elements) s.gone.items s.come.items) }
         ensures stands { IfOk result (λ s. (rules : List Rule) → NetOf self.net rules → NetOf s.matcher.net rules) }
         ensures net { IfOk result (λ s. s.matcher.net ≡ self.net) }
-        // What was removed stays kept: what was present or was added is held, and nothing else.
+        // Removed elements are still held: what was present or was added is held, and nothing else.
         ensures kept { IfOk result (λ s. HoldsAlso (record self.store { kept = [] }) s.matcher.store (added_by changes.now)) }
         // The lines with their entries are a bundle of the changes.
         ensures bundle { IfOk result (λ s. IsBundle (held_of s.matcher.store) s.matcher.net.alphas s.matcher.net.nodes (placed (held_of s.matcher.store) s.matcher.net.nodes (length s.matcher.world.lines.items)) self.store.elements changes.now (map seen s.matcher.world.lines.items)) }

@@ -1,4 +1,4 @@
-//! A phase at work: changes are fed, and tasks are done, each with all that comes of it.
+//! A phase at work: changes are fed, and tasks are performed, each with all tasks that result from it.
 ghost use Rattle.std.specs.Prelude.{◌≡◌, ◌≤◌, ◌<◌, ◌+◌, ◌-◌, ℕ, IfOk, OnOk, [], false, length, map, remove, All, None};
 ghost use Rattle.ops_base.specs.WorkingMemory.{HasRisingTags, Lawful, done, last_after};
 ghost use Rattle.work_store.specs.Settling.{IsSettled};
@@ -21,11 +21,12 @@ use step_core::laws::{match_laws, settle_laws};
 use step_core::{Gathered, World, gather_worked};
 use work_store::Store;
 
-/// While changes are fed, this many tasks in flight are done before the next change is fed. So a phase of many changes
-/// holds a few hundred kilobytes of tasks at a time, which stay near the processor, and not all that its changes feed.
+/// While changes are fed, once this many tasks are in flight they are performed before the next change is fed. So a
+/// phase of many changes holds a few hundred kilobytes of tasks at a time, which fit in the processor's caches, and
+/// not everything that its changes feed.
 pub(crate) const TASKS_AT_ONCE: usize = 4_096;
 
-/// Whether this many tasks are in flight, where a number is asked for.
+/// Whether this many tasks are in flight, if a limit is given.
 fn is_full(world: &World, most: Option<usize>) -> bool
     ensures { result ≡ is_full most (length world.now.flight.items) }
 {
@@ -35,8 +36,8 @@ fn is_full(world: &World, most: Option<usize>) -> bool
     }
 }
 
-/// Does the last task in flight, and then all that comes of it, down to the terminals; or until as many are in flight
-/// as are asked for. `enter` gets the line of each task just before it is done.
+/// Performs the last task in flight and then all tasks that result, down to the terminals; or stops when as many
+/// tasks are in flight as the limit, if one is given. `enter` gets the line of each task just before it is performed.
 fn work_down<F: Fn(usize)>(
     alloc: Global,
     net: &Net,
@@ -69,8 +70,9 @@ fn work_down<F: Fn(usize)>(
     Ok(())
 }
 
-/// Does all tasks in flight and all that comes of them, from the last on; or stops where as many are in flight as are
-/// asked for. It costs what its tasks cost. `enter` gets the line of each task just before it is done.
+/// Performs all tasks in flight and all that result, starting with the last; or stops when as many are in flight as
+/// the limit, if one is given. The cost is that of its tasks. `enter` gets the line of each task just before it is
+/// performed.
 pub fn work_all<F: Fn(usize)>(
     alloc: Global,
     net: &Net,
@@ -118,8 +120,8 @@ fn feed_all(
     Ok(())
 }
 
-/// Does the task in flight at the place that is the pick modulo their number, if there is one. Its children come after
-/// the others.
+/// Performs the task in flight whose place is the pick modulo their number, if there is any. Its children are put
+/// after the others.
 fn work_picked<F: Fn(usize)>(
     alloc: Global,
     net: &Net,
@@ -144,7 +146,7 @@ fn work_picked<F: Fn(usize)>(
     Ok(())
 }
 
-/// Does one task in flight for each pick, as long as there is one.
+/// Performs one task in flight for each pick, as long as there is one.
 fn work_picks<F: Fn(usize)>(
     alloc: Global,
     net: &Net,
@@ -166,7 +168,7 @@ fn work_picks<F: Fn(usize)>(
     Ok(())
 }
 
-/// Does all tasks in flight where these are `TASKS_AT_ONCE` or more, and none otherwise.
+/// Performs all tasks in flight if there are `TASKS_AT_ONCE` or more, and none otherwise.
 fn make_room<F: Fn(usize)>(
     alloc: Global,
     net: &Net,
@@ -187,8 +189,8 @@ fn make_room<F: Fn(usize)>(
     work_all(alloc, net, store, enter, world, None)
 }
 
-/// Puts the tasks of the changes into flight, in the order of the changes. Before each change room is made, so few more
-/// than `TASKS_AT_ONCE` are in flight at a time. `enter` gets the line of each task just before it is done.
+/// Puts the tasks of the changes into flight, in the order of the changes. Before each change it makes room, so few
+/// more than `TASKS_AT_ONCE` are in flight at a time. `enter` gets the line of each task just before it is performed.
 fn feed_in_turns<F: Fn(usize)>(
     alloc: Global,
     net: &Net,
@@ -212,8 +214,8 @@ fn feed_in_turns<F: Fn(usize)>(
     Ok(())
 }
 
-/// Puts the tasks of the changes into flight. Without picks some are done between two changes, as room asks for it;
-/// with picks all changes are fed first, and then a task is done for each pick.
+/// Puts the tasks of the changes into flight. Without picks, some tasks are performed between two changes when room
+/// is needed. With picks, all changes are fed first, and then one task is performed for each pick.
 fn feed_changes<F: Fn(usize)>(
     alloc: Global,
     net: &Net,
@@ -239,7 +241,8 @@ fn feed_changes<F: Fn(usize)>(
     Ok(())
 }
 
-/// Does all that the changes feed. Once all are fed the last task in flight is next, until none is left.
+/// Performs all tasks that result from the changes. Once all changes are fed, the last task in flight is next, until
+/// none is left.
 fn work_changes<F: Fn(usize)>(
     alloc: Global,
     net: &Net,
@@ -263,7 +266,7 @@ fn work_changes<F: Fn(usize)>(
     Ok(())
 }
 
-/// Does the phase of these changes, which the store has done. The lines begin it.
+/// Runs the phase of these changes, which the store has already done. At the start the lines begin the phase.
 fn run_phase<F: Fn(usize)>(
     alloc: Global,
     net: &Net,
@@ -289,7 +292,7 @@ fn run_phase<F: Fn(usize)>(
     Ok(())
 }
 
-/// Does the changes to the store. What it kept before goes, and what the changes remove is kept.
+/// Does the changes to the store. It drops the elements that it kept before, and keeps those that the changes remove.
 pub fn do_changes(alloc: Global, store: &mut Store, changes: &[Change]) -> Result<(), OutOfMemory>
     requires { Lawful store.old.elements store.old.last changes.now }
     ensures elements { OnOk result (store.new.elements ≡ done store.old.elements changes.now) }
@@ -306,11 +309,11 @@ pub fn do_changes(alloc: Global, store: &mut Store, changes: &[Change]) -> Resul
     Ok(())
 }
 
-/// Does the changes to the store, and their phase over lines that hold just the tokens over it. The lines then hold
-/// just the tokens over the store with the changes done, and their entries are a bundle of the changes. With picks, all
-/// changes are fed at once, and a task is done for each pick. Otherwise tasks are done while changes are fed, as soon
-/// as `TASKS_AT_ONCE` are in flight. At the end the last task in flight is next. `enter` gets the line of each task
-/// just before it is done.
+/// Does the changes to the store and runs their phase, starting from lines that hold exactly the tokens over the
+/// store. Afterwards the lines hold exactly the tokens over the store with the changes done, and their entries are a
+/// bundle of the changes. With picks, all changes are fed at once, and one task is performed for each pick. Otherwise
+/// tasks are performed while changes are fed, as soon as `TASKS_AT_ONCE` are in flight. At the end the last task in
+/// flight is next. `enter` gets the line of each task just before it is performed.
 pub fn settle<F: Fn(usize)>(
     alloc: Global,
     net: &Net,

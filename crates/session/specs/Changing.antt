@@ -1,4 +1,4 @@
--- What a command leaves that takes productions out.
+-- The effect of a command that removes productions.
 use Rattle.std.specs.Prelude.{◌≡◌, List, false, Result, IfOk, OnOk}
 use Rattle.ops_base.specs.declared.endings.Ending.{Ending}
 use Rattle.ops_base.specs.declared.programs.Program.{Program}
@@ -14,8 +14,8 @@ use Rattle.live_rules.specs.Moves.{IsWith}
 use Rattle.session.specs.Courses.{IsUnderWay, meant_by, ends_unread}
 use Rattle.session.specs.declared.session.Session.{Session}
 
--- The productions of these names are taken out of the old program, which leaves the new one. No read fails, and the
--- session is still under way.
+-- The productions with these names are removed from the old program, which gives the new one. No read fails, and the
+-- session is still in progress.
 pub record Excises {M H : Type 0} (stored : M → Stored) (stands_for : M → List Rule → Type 0) (old new : Program) (names : Spellings) (given : List Sym) (before : Session M H) (r : Result (Session M H) Ending) (a b : Port) : Type 0 where
   pub performs : (c : Coming) → Performs (λ s. meant_by stored new.rules s names c) of_ending r a b (excised a.out.column given (meant_by stored old.rules before names c))
   pub reads : ends_unread r ≡ false

@@ -18,8 +18,9 @@ NamesHeld names ending.ReadFault = Unit {0}
 NamesHeld names ending.WriteFault = Unit {0}
 NamesHeld names ending.OutOfMemory = Unit {0}
 
--- Whatever input comes to it, a session of the program that begins with these names ends with names that hold each
--- symbol of the program and of working memory, or with an ending whose production is named by one that they held.
+-- Whatever input comes, a session of the program that begins with these names ends in one of two ways: with names that
+-- hold each symbol of the program and of working memory, or with an ending whose production is named by a symbol that
+-- the names at the beginning held.
 abbrev pub EndsHeld : Program → ℕ → Spellings → Type 0
 EndsHeld p limit names =
     (coming : Coming) → MatchResult (session_of (setting_of p 0) limit p.commands names coming).outcome

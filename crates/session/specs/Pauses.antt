@@ -1,4 +1,4 @@
--- Why a run ends whatever is next, as the code keeps it.
+-- Why a run ends regardless of what is next, as the code represents it.
 use Rattle.std.specs.Prelude.{ℕ, List, Option, option_map}
 use Rattle.ops_base.specs.Names.{Spellings}
 use Rattle.ops_meaning.specs.Layout.{halted_line, broken_line, counted_line}
@@ -7,11 +7,11 @@ use Rattle.session.specs.declared.runs.LastFiring.{LastFiring}
 use Rattle.session.specs.declared.runs.Pause.{Pause}
 use Rattle.session.specs.declared.runs.Pause.TheVariants as pause
 
--- the last firing of a run, where it made one
+-- the last firing of a run, if it made one
 abbrev pub meant_last : Option LastFiring → Option Meant
 meant_last last = option_map (λ f. record { rule = f.rule; halted = f.halted }) last
 
--- the line of a run that ends for this reason
+-- the line that is printed if a run ends for this reason
 abbrev pub pause_line : Spellings → Pause → List ℕ
 pause_line names pause.Halted = halted_line
 pause_line names (pause.Broken name) = broken_line names name

@@ -1,5 +1,5 @@
-//! What no session reaches.
+//! A bound that no session reaches.
 
-/// No make at the top and no firing begins where the last tag, or the number of firings made, has come to this: that is
-/// answered as out of memory. A session is over long before.
+/// Once the last tag or the number of firings has reached this, no top-level make and no firing begins: out of memory
+/// is reported. No session lasts that long.
 pub(crate) const UNREACHED: u64 = 1 << 63;

@@ -1,5 +1,5 @@
-//! The commands that change productions. The program in force changes at once, and the state follows it when something
-//! looks at it.
+//! The commands that change productions. The program in force changes at once. The state follows when something needs
+//! it.
 ghost use Rattle.std.specs.Prelude.{◌≡◌, ◌^◌, ◌<◌, ◌∷◌, [], length, Some, None, IsTrue, IfOk, OnOk};
 ghost use Rattle.ops_base.specs.Names.{Spellings};
 ghost use Rattle.ops_base.specs.Valid.{rule_builds_from, rule_is_valid};
@@ -22,7 +22,7 @@ use ops_print::put_name_line;
 use std::alloc::Global;
 use work_store::Matcher;
 
-/// These new numbers, or those of productions of which none has moved.
+/// These new numbers, or if there are none, those of productions none of which has moved.
 fn first_numbers(alloc: Global, live: &Live, moved: Option<Moved>) -> Result<Moved, OutOfMemory>
     ensures { IfOk result (λ m. m ≡ places_of moved (length live.now.program.rules)) }
 {
@@ -32,7 +32,8 @@ fn first_numbers(alloc: Global, live: &Live, moved: Option<Moved>) -> Result<Mov
     }
 }
 
-/// A session without its new numbers of productions, and these, if there are none yet for the productions in force.
+/// Separates the new numbers of productions from a session; if it has none yet, they are those of the productions in
+/// force.
 fn numbers_apart<M: Matcher>(
     alloc: Global,
     live: &Live,
@@ -45,7 +46,7 @@ fn numbers_apart<M: Matcher>(
         → meant_by M.stored live.now.program.rules (record session { moved = Some r.1 }) n c ≡ meant_by M.stored live.now.program.rules session n c) }
     ensures under_way { IfOk result (λ r. IsUnderWay M.stored M.stands_for live.now.program.rules (record session { moved = Some r.1 })) }
 {
-    // the state is looked at for what it keeps true: each instantiation is of a production that is there
+    // reads the state to get at its invariants: each instantiation is of a production that exists
     let _last = session.state.last_tag();
     let _index = session.state.index();
     let Session {
@@ -70,7 +71,7 @@ fn numbers_apart<M: Matcher>(
     Ok((session, moved))
 }
 
-/// A late `p`: adds its production to those in force, in the place of one of its name.
+/// A late `p`: adds its production to those in force, in place of one with the same name.
 pub(crate) fn add_production<M: Matcher>(
     alloc: Global,
     live: &mut Live,
@@ -96,7 +97,7 @@ pub(crate) fn add_production<M: Matcher>(
     })
 }
 
-/// Takes the production of a name out of those in force, or writes that there is none.
+/// Removes the production with this name from those in force, or writes that there is none.
 fn excise_one<M: Matcher, K: Sink>(
     alloc: Global,
     live: &mut Live,
@@ -131,7 +132,7 @@ fn excise_one<M: Matcher, K: Sink>(
     }
 }
 
-/// The command `excise`: takes the productions of these names out of those in force, one after the other, and writes
+/// The command `excise`: removes the productions with these names from those in force, one after the other, and writes
 /// which names no production has.
 pub(crate) fn excise<M: Matcher, K: Sink>(
     alloc: Global,

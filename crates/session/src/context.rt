@@ -4,7 +4,7 @@ ghost use Rattle.std.specs.Prelude.{◌≡◌};
 use ops_base::programs::Program;
 use std::alloc::Global;
 
-/// What the commands of a session share, and none of them changes.
+/// What the commands of a session share and do not change.
 #[derive(Clone, Copy)]
 pub struct SessionContext<'a, B, H, A> {
     pub alloc: Global,
@@ -12,7 +12,7 @@ pub struct SessionContext<'a, B, H, A> {
     pub maker: &'a B,
     /// Settles the matcher.
     pub settle: &'a H,
-    /// Does right sides, and settles the matcher by their changes.
+    /// Executes right sides, and settles the matcher by their changes.
     pub actor: &'a A,
     /// The session makes at most this many firings.
     pub limit: u64,
@@ -20,13 +20,13 @@ pub struct SessionContext<'a, B, H, A> {
     pub is_explained: bool,
 }
 
-/// What a command has that changes no production.
+/// The context of a command that changes no production.
 #[derive(Clone, Copy)]
 pub(crate) struct RunContext<'a, H, A> {
     pub(crate) alloc: Global,
     /// Settles the matcher.
     pub(crate) settle: &'a H,
-    /// Does right sides, and settles the matcher by their changes.
+    /// Executes right sides, and settles the matcher by their changes.
     pub(crate) actor: &'a A,
     /// The program in force.
     pub(crate) program: &'a Program,

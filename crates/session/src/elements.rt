@@ -12,7 +12,7 @@ use ops_base::programs::Program;
 use ops_base::values::{NIL, NOTHING, Value};
 use std::alloc::Global;
 
-/// A class without attributes, which takes no memory.
+/// A class without attributes. Allocates nothing.
 fn no_class(alloc: Global) -> Class
     ensures { result ≡ no_class }
 {
@@ -34,7 +34,7 @@ fn class_of<'c>(classes: &'c [Class], class: usize, none: &'c Class) -> &'c Clas
     }
 }
 
-/// Gives a scalar attribute, where there is one.
+/// Sets a scalar attribute, if it exists.
 fn set_field(fields: &mut Vec<Value>, field: usize, value: Value)
     ensures { fields.new.items ≡ slice_set fields.old.items field value }
 {
@@ -52,8 +52,8 @@ fn first_of(values: &[Value]) -> Value
     }
 }
 
-/// Gives one attribute: a scalar one the first of the values, and the vector attribute all, in the place of those that
-/// it had. Takes time for these values alone.
+/// Sets one attribute: a scalar one to the first of the values, and the vector attribute to all of them, in place of
+/// those that it had. Takes time in proportion to the number of these values only.
 fn give_values(
     class: &Class,
     fields: &mut Vec<Value>,

@@ -1,11 +1,11 @@
 //! The session: the commands of a program in the order of its text, over any matcher.
 //!
-//! The definitions of what a command does are total, and so are the functions here: where a number is of no class, they
-//! go by a class without attributes, and where no value is given by `nil`. A program that was checked never comes
-//! there.
+//! The definitions of what a command does are total, and so are the functions here: if a number denotes no class, they
+//! use a class without attributes, and if no value is given, `nil`. In a checked program this never happens.
 //!
-//! `names`, `input`, `source`, `out` and `sink` go from call to call, each as a parameter of its own: each is lent by
-//! itself, so that a contract can name what each holds afterwards. What no command changes goes in one `SessionContext`.
+//! `names`, `input`, `source`, `out` and `sink` are passed from call to call, each as a parameter of its own: each is
+//! borrowed separately, so that a contract can name the contents of each after the call. What no command changes is in
+//! one `SessionContext`.
 #![tactic(auto)]
 
 mod bounds;

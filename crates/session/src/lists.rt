@@ -25,7 +25,7 @@ use ops_io::{Out, Sink, WriteFailed};
 use ops_print::{put_element_line, put_inst_line};
 use work_store::{Matcher, Store};
 
-/// Puts the lines of all elements, by rising tag. Takes no memory.
+/// Puts the lines of all elements, in the order of their tags. Allocates nothing.
 fn put_all<K: Sink>(
     out: &mut Out,
     sink: &mut K,
@@ -45,7 +45,7 @@ fn put_all<K: Sink>(
     Ok(())
 }
 
-/// Puts the line of the element of a tag, where there is one.
+/// Puts the line of the element with this tag, if there is one.
 fn put_tagged<K: Sink>(
     out: &mut Out,
     sink: &mut K,
@@ -66,8 +66,8 @@ fn put_tagged<K: Sink>(
     }
 }
 
-/// Puts the lines of the elements of these tags in their order, each looked up by its tag, or of all where no tag is
-/// given.
+/// Puts the lines of the elements with these tags in their order, each looked up by its tag, or of all elements if no
+/// tag is given.
 fn put_elements<K: Sink>(
     out: &mut Out,
     sink: &mut K,
@@ -91,7 +91,7 @@ fn put_elements<K: Sink>(
     Ok(())
 }
 
-/// The command `wm`: lists the elements of these tags, or all where no tag is given.
+/// The command `wm`: lists the elements with these tags, or all if no tag is given.
 pub(crate) fn list_elements<M: Matcher, K: Sink>(
     program: &Program,
     names: &Names,
@@ -120,7 +120,7 @@ pub(crate) fn list_elements<M: Matcher, K: Sink>(
     Ok(session)
 }
 
-/// The value at a place of these, `nil` past the end.
+/// The value at a place in these fields, or `nil` past the end.
 fn value_at(fields: &[Value], place: usize) -> Value
     ensures { result ≡ unwrap_or (slice_get fields.now place) nil }
 {
@@ -136,7 +136,7 @@ fn is_same(value: Value, other: &Value) -> bool
     value == *other
 }
 
-/// Whether an element has these values from a field on.
+/// Whether an element has these values, starting at this field.
 fn has_values(element: &Element, field: usize, values: &[Value]) -> bool
     ensures { result ≡ has_values element.now field values.now }
 {
@@ -149,14 +149,14 @@ fn has_values(element: &Element, field: usize, values: &[Value]) -> bool
     true
 }
 
-/// Whether an element has the values of each.
+/// Whether an element has all the given values.
 fn has_all(element: &Element, given: &[Fixed]) -> bool
     ensures { result ≡ list_all (λ g. has_values element.now g.field g.values) given.now }
 {
     given.iter().all(|fixed| has_values(element, fixed.field, fixed.values.as_slice()))
 }
 
-/// Whether an element is of the class of the pattern and has its values. Without a pattern each does.
+/// Whether an element is of the class of the pattern and has its values. Without a pattern, every element meets it.
 fn meets(pattern: &Option<(usize, Listed<Fixed>)>, element: &Element) -> bool
     ensures { result ≡ meets pattern.now element.now }
 {
@@ -166,7 +166,7 @@ fn meets(pattern: &Option<(usize, Listed<Fixed>)>, element: &Element) -> bool
     }
 }
 
-/// Puts the line of an element, where it meets the pattern.
+/// Puts the line of an element, if it meets the pattern.
 fn put_where_met<K: Sink>(
     out: &mut Out,
     sink: &mut K,
@@ -188,7 +188,7 @@ fn put_where_met<K: Sink>(
     }
 }
 
-/// Puts the lines of the elements that meet the pattern, by rising tag. Takes no memory.
+/// Puts the lines of the elements that meet the pattern, in the order of their tags. Allocates nothing.
 fn put_met<K: Sink>(
     out: &mut Out,
     sink: &mut K,
@@ -231,8 +231,8 @@ pub(crate) fn list_met<M: Matcher, K: Sink>(
     Ok(session)
 }
 
-/// Puts the lines of the instantiations that have not fired, the dominant one first. Takes no memory, and a time in
-/// proportion to their number.
+/// Puts the lines of the instantiations that have not fired, the dominant one first. Allocates nothing, and takes time
+/// in proportion to their number.
 fn put_standing<K: Sink>(
     out: &mut Out,
     sink: &mut K,

@@ -32,7 +32,7 @@ use std::alloc::Global;
 use std::collections::BTreeSet;
 use work_store::{Matcher, Settled, Store};
 
-/// The tag of the next element. If there is none, that is answered as out of memory.
+/// The tag of the next element. If there is none, out of memory is reported.
 fn next_tag(last: u64) -> Result<u64, OutOfMemory>
     ensures { IfOk result (λ tag. tag ≡ last + 1) }
 {
@@ -43,7 +43,7 @@ fn next_tag(last: u64) -> Result<u64, OutOfMemory>
     }
 }
 
-/// Does changes in their order, which is one phase.
+/// Makes changes in their order, as one phase.
 fn change<M: Matcher, H: Fn(M, &[Change]) -> Result<Settled<M>, OutOfMemory>, A>(
     context: &RunContext<'_, H, A>,
     session: Session<M>,
@@ -70,7 +70,7 @@ fn change<M: Matcher, H: Fn(M, &[Change]) -> Result<Settled<M>, OutOfMemory>, A>
     })
 }
 
-/// One phase, whose changes are printed first where elements are traced.
+/// One phase. Its changes are printed first if elements are traced.
 fn phase<M: Matcher, H: Fn(M, &[Change]) -> Result<Settled<M>, OutOfMemory>, A, K: Sink>(
     context: &RunContext<'_, H, A>,
     names: &Names,
@@ -104,7 +104,7 @@ fn phase<M: Matcher, H: Fn(M, &[Change]) -> Result<Settled<M>, OutOfMemory>, A, 
     Ok(change(context, session, changes)?)
 }
 
-/// An element waits for its phase.
+/// Adds an element to those that wait for their phase.
 fn add_pending<M: Matcher>(session: Session<M>, made: Element) -> Result<Session<M>, OutOfMemory>
     ensures { IfOk result (λ s. s ≡ record session { pending = session.pending ++ Change.Add made ∷ []; last_tag = made.tag }) }
 {
@@ -114,8 +114,8 @@ fn add_pending<M: Matcher>(session: Session<M>, made: Element) -> Result<Session
     Ok(session)
 }
 
-/// Makes an element, which is one phase. Where no run was begun it waits. Where elements are traced its line is printed
-/// at once.
+/// Makes an element, which is one phase. Before the first run, the phase waits. If elements are traced, the line is
+/// printed at once.
 fn make_one<M: Matcher, H: Fn(M, &[Change]) -> Result<Settled<M>, OutOfMemory>, A, K: Sink>(
     context: &RunContext<'_, H, A>,
     names: &Names,
@@ -146,8 +146,8 @@ fn make_one<M: Matcher, H: Fn(M, &[Change]) -> Result<Settled<M>, OutOfMemory>, 
     Ok(add_pending(session, made)?)
 }
 
-/// The command `make`, which is one phase. Where no run was begun it waits. Where elements are traced its line is printed
-/// at once.
+/// The command `make`, which is one phase. Before the first run, the phase waits. If elements are traced, the line is
+/// printed at once.
 pub(crate) fn make_at_top<
     M: Matcher,
     H: Fn(M, &[Change]) -> Result<Settled<M>, OutOfMemory>,
@@ -176,22 +176,22 @@ pub(crate) fn make_at_top<
     make_one(context, names, session, class, puts, out, sink)
 }
 
-/// Whether an element of this tag is there.
+/// Whether an element with this tag is present.
 fn is_present(store: &Store, tag: u64) -> bool
     ensures { result ≡ has_tag store.now.elements tag }
 {
     store.get(tag).is_some()
 }
 
-/// Whether the element of this tag is there, and was not named before.
+/// Whether the element with this tag is present and was not named before.
 fn is_left(store: &Store, named: &BTreeSet<u64>, tag: u64) -> bool
     ensures { result ≡ (has_tag store.now.elements tag && not (contains nat_cmp named.now tag)) }
 {
     is_present(store, tag) && !named.contains(&tag)
 }
 
-/// The removals of these tags in their order, where an absent one is none, and one that is named again neither. Each is
-/// looked up, so that it takes a time in proportion to the tags, times the logarithm of their number.
+/// The removals of these tags in their order. A tag that is absent or was named before is ignored. Each tag is looked
+/// up: for n tags, this takes time in proportion to n log n.
 fn removals(alloc: Global, store: &Store, tags: &[u64]) -> Result<Listed<Change>, OutOfMemory>
     ensures { IfOk result (λ changes. changes ≡ removals store.now.elements tags.now) }
 {
@@ -207,12 +207,12 @@ fn removals(alloc: Global, store: &Store, tags: &[u64]) -> Result<Listed<Change>
     Ok(changes)
 }
 
-/// The removals of all elements, by rising tag.
+/// The removals of all elements, in the order of their tags.
 fn all_removals(alloc: Global, store: &Store) -> Result<Listed<Change>, OutOfMemory>
     ensures changes { IfOk result (λ changes. changes ≡ map Change.Remove (tags_of store.now.elements)) }
     ensures rising { HasRisingTags store.now.elements }
 {
-    // the store is looked at for what it keeps true
+    // reads the store to get at its invariant
     let _last = store.last();
     let mut changes = Listed::new(alloc);
     for element in store.iter() {
@@ -221,7 +221,7 @@ fn all_removals(alloc: Global, store: &Store) -> Result<Listed<Change>, OutOfMem
     Ok(changes)
 }
 
-/// The command `remove` with tags: removes their elements, which is one phase.
+/// The command `remove` with tags: removes their elements, as one phase.
 pub(crate) fn remove<
     M: Matcher,
     H: Fn(M, &[Change]) -> Result<Settled<M>, OutOfMemory>,
@@ -250,7 +250,7 @@ pub(crate) fn remove<
     phase(context, names, session, changes.as_slice(), out, sink)
 }
 
-/// The command `remove *`: removes all elements, which is one phase.
+/// The command `remove *`: removes all elements, as one phase.
 pub(crate) fn remove_all<
     M: Matcher,
     H: Fn(M, &[Change]) -> Result<Settled<M>, OutOfMemory>,

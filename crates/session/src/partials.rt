@@ -24,7 +24,7 @@ use std::alloc::Global;
 use why::upto;
 use work_store::{Matcher, Store};
 
-/// Puts the lines of these partial matches of a production's first parts. Takes no memory.
+/// Puts the lines of these partial matches of a production's first parts. Allocates nothing.
 fn put_found<K: Sink>(
     out: &mut Out,
     sink: &mut K,
@@ -55,8 +55,8 @@ fn count_of_parts(program: &Program, rule: usize) -> usize
     }
 }
 
-/// Puts the lines of the partial matches of the production with this number. Matches its first part, its first two, and
-/// so on, each time from the beginning.
+/// Puts the lines of the partial matches of the production with this number. Matches its first part, its first two
+/// parts, and so on, each time from the start.
 fn put_all<K: Sink>(
     alloc: Global,
     names: &Names,
@@ -83,7 +83,7 @@ fn put_all<K: Sink>(
     Ok(())
 }
 
-/// Puts the lines of the partial matches of the production of a name, or writes that there is none.
+/// Puts the lines of the partial matches of the production with this name, or writes that there is none.
 fn put_of_name<K: Sink>(
     alloc: Global,
     names: &Names,
@@ -129,7 +129,7 @@ fn put_of_names<K: Sink>(
     Ok(())
 }
 
-/// The same, where memory that runs out and a write that is refused are endings.
+/// The same, with out of memory and a refused write as endings.
 fn put_listed<K: Sink>(
     alloc: Global,
     names: &Names,
@@ -154,7 +154,7 @@ fn put_listed<K: Sink>(
     }
 }
 
-/// The same, over what a store has. Makes a reference to each element.
+/// The same, over the elements of a store. Makes a reference to each element.
 fn put_matches<K: Sink>(
     alloc: Global,
     names: &Names,
@@ -175,7 +175,7 @@ fn put_matches<K: Sink>(
     put_listed(alloc, names, program, wm.as_slice(), given, out, sink)
 }
 
-/// The command `matches`: lists the partial matches of the productions of these names.
+/// The command `matches`: lists the partial matches of the productions with these names.
 pub(crate) fn list_matches<M: Matcher, K: Sink>(
     alloc: Global,
     program: &Program,

@@ -1,4 +1,4 @@
-//! The commands that name productions: their texts, and their breaks.
+//! The commands that name productions: `pm`, which prints their texts, and `pbreak`, for their breaks.
 ghost use Rattle.std.specs.Prelude.{◌≡◌, ◌==◌, ◌^◌, ◌<◌, ◌≤◌, [], ◌∷◌, length, map, find, IsTrue, if◌then◌else◌};
 ghost use Rattle.std.specs.Option.{option_copied};
 ghost use Rattle.ops_io.specs.Ports.{port, PutsBytes};
@@ -21,14 +21,14 @@ use ops_io::{Out, Sink, WriteFailed};
 use ops_print::{put_line, put_name_line};
 use work_store::Matcher;
 
-/// The production of a name. Looks at one after the other.
+/// The production with this name. Searches the productions one after the other.
 fn production(rules: &[Rule], name: Sym) -> Option<&Rule>
     ensures { option_copied result ≡ find (λ r. r.name.0 == name.0) rules.now }
 {
     rules.iter().find(|rule| rule.name == name)
 }
 
-/// The bytes of a production, from its bracket to its bracket.
+/// The text of a production, from its opening to its closing bracket.
 fn rule_text<'t>(text: &'t [u8], rule: &Rule) -> &'t [u8]
     requires first { rule.now.first ≤ rule.now.past }
     requires past { rule.now.past ≤ length text.now }
@@ -37,7 +37,7 @@ fn rule_text<'t>(text: &'t [u8], rule: &Rule) -> &'t [u8]
     &text[rule.first..rule.past]
 }
 
-/// Puts the production of a name as it stands in the text, or tells that there is none.
+/// Puts the production with this name as it is in the text, or writes that there is none.
 fn put_production<K: Sink>(
     out: &mut Out,
     sink: &mut K,
@@ -77,7 +77,7 @@ fn put_productions<K: Sink>(
     Ok(())
 }
 
-/// The command `pm`: lists the productions of these names.
+/// The command `pm`: lists the productions with these names.
 pub(crate) fn list_productions<M: Matcher, K: Sink>(
     program: &Program,
     names: &Names,
@@ -98,7 +98,7 @@ pub(crate) fn list_productions<M: Matcher, K: Sink>(
     Ok(session)
 }
 
-/// Puts the line of a production, where it has a break.
+/// Puts the line of a production, if it has a break.
 fn put_break<K: Sink>(
     out: &mut Out,
     sink: &mut K,
@@ -140,7 +140,7 @@ fn put_breaks<K: Sink>(
     Ok(())
 }
 
-/// Tells that no production has this name, where none has.
+/// Writes that no production has this name, if that is so.
 fn put_where_unknown<K: Sink>(
     out: &mut Out,
     sink: &mut K,
@@ -160,7 +160,7 @@ fn put_where_unknown<K: Sink>(
     }
 }
 
-/// Tells the names that no production has.
+/// Writes which of these names no production has.
 fn put_unknown<K: Sink>(
     out: &mut Out,
     sink: &mut K,
@@ -180,7 +180,8 @@ fn put_unknown<K: Sink>(
     Ok(())
 }
 
-/// The production with this number, if it is one, gets a break, or loses it.
+/// Sets the break of the production with this number, or clears it if it was set. Does nothing if there is no such
+/// production.
 fn toggle(breaks: &mut Vec<bool>, number: Option<usize>)
     ensures { breaks.new.items ≡ toggled number breaks.old.items }
 {
@@ -202,8 +203,8 @@ fn toggle_all(rules: &[Rule], given: &[Sym], breaks: Listed<bool>) -> Listed<boo
     Listed::from_vec(breaks)
 }
 
-/// The command `pbreak`: sets or clears breaks by names, or lists them where no name is given. For each name it looks
-/// at the productions one after the other.
+/// The command `pbreak`: sets or clears breaks by names, or lists them if no name is given. For each name it searches
+/// the productions one after the other.
 pub(crate) fn give_breaks<M: Matcher, K: Sink>(
     program: &Program,
     names: &Names,

@@ -1,5 +1,5 @@
-//! What a session is made ready with before a command is done: phases that wait, and a state that follows the productions
-//! in force.
+//! Prepares a session for the next command: makes the phases that wait, and makes the state follow the productions in
+//! force.
 ghost use Rattle.std.specs.Prelude.{◌≡◌, [], None, true, IfOk};
 ghost use Rattle.ops_base.specs.Names.{Spellings};
 ghost use Rattle.ops_io.specs.Coming.{Coming};
@@ -15,7 +15,7 @@ use ops_base::elements::Change;
 use ops_base::memory::OutOfMemory;
 use work_store::{Matcher, Settled};
 
-/// The state follows the productions in force.
+/// Makes the state follow the productions in force.
 fn follow<B: Maker, H: Fn(B::M, &[Change]) -> Result<Settled<B::M>, OutOfMemory>, A>(
     context: &RunContext<'_, H, A>,
     maker: &B,
@@ -68,7 +68,7 @@ fn follow<B: Maker, H: Fn(B::M, &[Change]) -> Result<Settled<B::M>, OutOfMemory>
     })
 }
 
-/// The state follows the productions in force, and nothing waits.
+/// Makes the state follow the productions in force, and makes the phases that wait.
 pub(crate) fn settle_all<B: Maker, H: Fn(B::M, &[Change]) -> Result<Settled<B::M>, OutOfMemory>, A>(
     context: &RunContext<'_, H, A>,
     maker: &B,
@@ -87,7 +87,7 @@ pub(crate) fn settle_all<B: Maker, H: Fn(B::M, &[Change]) -> Result<Settled<B::M
     Ok(session)
 }
 
-/// Nothing waits. Where nothing did, the state stays as it is.
+/// Makes the phases that wait. If none waits, the state stays as it is.
 pub(crate) fn settle_pending<
     B: Maker,
     H: Fn(B::M, &[Change]) -> Result<Settled<B::M>, OutOfMemory>,
@@ -110,8 +110,8 @@ pub(crate) fn settle_pending<
     settle_all(context, maker, session)
 }
 
-/// Once a run was begun, the state follows the productions in force. Before that makes wait; where many do, their phases
-/// are made.
+/// Once a run was begun, makes the state follow the productions in force. Before that, makes wait; if many of them
+/// wait, their phases are made.
 fn make_room<B: Maker, H: Fn(B::M, &[Change]) -> Result<Settled<B::M>, OutOfMemory>, A>(
     context: &RunContext<'_, H, A>,
     maker: &B,
@@ -133,8 +133,8 @@ fn make_room<B: Maker, H: Fn(B::M, &[Change]) -> Result<Settled<B::M>, OutOfMemo
     Ok(session)
 }
 
-/// Makes a session ready for a command. Commands that change productions make nothing ready: so the state follows many
-/// of them at once, when something looks at it.
+/// Prepares a session for a command. A command that changes productions needs no preparation. So the state follows many
+/// of them at once, when something needs it.
 pub(crate) fn make_ready<B: Maker, H: Fn(B::M, &[Change]) -> Result<Settled<B::M>, OutOfMemory>, A>(
     context: &RunContext<'_, H, A>,
     maker: &B,

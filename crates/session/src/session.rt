@@ -1,4 +1,4 @@
-//! `Session`, which is a session between two of its commands, and the phases that wait in it.
+//! `Session`, a session between two of its commands, and the phases that wait in it.
 ghost use Rattle.std.specs.Prelude.{◌≡◌, [], length, replicate, false, None, IfOk};
 ghost use Rattle.ops_base.specs.Names.{Spellings};
 ghost use Rattle.ops_io.specs.Coming.{Coming};
@@ -16,20 +16,20 @@ use ops_base::programs::Program;
 use std::alloc::Global;
 use work_store::{Matcher, Settled};
 
-/// This many waiting makes are made as one phase, or as many as working memory has elements, if those are more. So a
-/// network engine holds the entries of such a piece at once and not those of all makes. The direct engine matches
-/// working memory anew in each phase: since working memory doubles at least from one piece to the next, all pieces
-/// together cost less than three times what one phase for all would.
+/// When this many makes wait, or as many as working memory has elements if those are more, they are made as one phase.
+/// So a network engine holds the entries of one such batch at a time, not those of all makes. The direct engine matches
+/// the whole working memory in each phase: because working memory at least doubles from one batch to the next, all
+/// batches together cost less than three times as much as a single phase for all makes.
 const PENDING_LIMIT: usize = 1024;
 
-/// A session between two of its commands. Before the first run nothing is marked as fired, so that no mark can be lost:
-/// top-level makes wait there, and many of them are made in one phase, for which the conflict set is found once.
+/// A session between two of its commands. Before the first run, nothing is marked as fired, so no mark can be lost:
+/// there top-level makes wait, and many of them are made in one phase, for which the conflict set is computed once.
 #[derive(Drop)]
 pub(crate) struct Session<M: Matcher> {
     pub(crate) state: State<M>,
-    /// Top-level makes of which no phase was made yet. There are none after a run.
+    /// Top-level makes whose phases were not made yet. There are none after a run.
     pub(crate) pending: Listed<Change>,
-    /// The last tag that was given, also to the makes that wait. `State::last_tag` does not count those.
+    /// The last tag that was assigned, including those of the makes that wait. `State::last_tag` does not count those.
     pub(crate) last_tag: u64,
     /// Whether a run was begun.
     pub(crate) ran: bool,
@@ -41,7 +41,7 @@ pub(crate) struct Session<M: Matcher> {
     pub(crate) moved: Option<Moved>,
 }
 
-/// No production has a break.
+/// The breaks of a program in which no production has one.
 fn no_breaks(alloc: Global, program: &Program) -> Result<Listed<bool>, OutOfMemory>
     ensures { IfOk result (λ breaks. breaks ≡ replicate (length program.now.rules) false) }
 {
@@ -74,7 +74,7 @@ pub(crate) fn start<M: Matcher>(
     })
 }
 
-/// Makes the phases that wait, as one.
+/// Makes the phases that wait, as one phase.
 pub(crate) fn make_pending<M: Matcher, H: Fn(M, &[Change]) -> Result<Settled<M>, OutOfMemory>, A>(
     context: &RunContext<'_, H, A>,
     session: Session<M>,
@@ -99,7 +99,7 @@ pub(crate) fn make_pending<M: Matcher, H: Fn(M, &[Change]) -> Result<Settled<M>,
     })
 }
 
-/// Whether enough makes wait for their phases to be made.
+/// Whether so many makes wait that their phases should be made.
 pub(crate) fn is_full<M: Matcher>(session: &Session<M>) -> bool {
     let waiting = session.pending.len();
     waiting >= PENDING_LIMIT && waiting >= session.state.store().len()

@@ -1,4 +1,4 @@
-//! The commands that set the strategy and the trace level, or tell them.
+//! The commands that set or print the strategy and the trace level.
 ghost use Rattle.std.specs.Prelude.{◌≡◌, ◌^◌, ◌<◌, List, IsTrue};
 ghost use Rattle.ops_base.specs.declared.rules.Rule.{Rule};
 ghost use Rattle.ops_base.specs.Names.{Spellings};
@@ -15,7 +15,7 @@ use ops_io::{Out, Sink};
 use ops_print::{put_line, put_number_line};
 use work_store::Matcher;
 
-/// The line that tells a strategy.
+/// The line that names a strategy.
 fn strategy_line(strategy: Strategy) -> &'static [u8]
     ensures { result.now ≡ strategy_line strategy }
 {
@@ -25,7 +25,7 @@ fn strategy_line(strategy: Strategy) -> &'static [u8]
     }
 }
 
-/// The command `strategy`: sets the strategy, or tells it where none is given.
+/// The command `strategy`: sets the strategy, or prints it if none is given.
 pub(crate) fn give_strategy<M: Matcher, K: Sink>(
     session: Session<M>,
     set: Option<Strategy>,
@@ -53,7 +53,7 @@ pub(crate) fn give_strategy<M: Matcher, K: Sink>(
     }
 }
 
-/// The command `watch`: sets the trace level, or tells it where none is given.
+/// The command `watch`: sets the trace level, or prints it if none is given.
 pub(crate) fn give_level<M: Matcher, K: Sink>(
     session: Session<M>,
     set: Option<u8>,

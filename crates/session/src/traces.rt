@@ -1,4 +1,4 @@
-//! The lines that tell changes to working memory, where elements are traced.
+//! The lines for changes to working memory, printed if elements are traced.
 ghost use Rattle.std.specs.Prelude.{◌≡◌, ◌^◌, ◌<◌, [], ◌∷◌, ◌++◌, IsTrue, codes};
 ghost use Rattle.ops_io.specs.Ports.{port, PutsBytes};
 ghost use Rattle.ops_meaning.specs.Acting.{change_text, change_lines};
@@ -13,7 +13,7 @@ use ops_io::{Out, Sink, WriteFailed};
 use ops_print::{put_made_line, put_removed_line};
 use work_store::Store;
 
-/// Puts the line of a change. An element that is removed is looked up by its tag.
+/// Puts the line for a change. An element that is removed is looked up by its tag.
 fn put_change<K: Sink>(
     out: &mut Out,
     sink: &mut K,
@@ -38,7 +38,7 @@ fn put_change<K: Sink>(
     }
 }
 
-/// Puts the lines of changes in their order.
+/// Puts the lines for changes in their order.
 fn put_changes<K: Sink>(
     out: &mut Out,
     sink: &mut K,
@@ -60,7 +60,7 @@ fn put_changes<K: Sink>(
     Ok(())
 }
 
-/// Tells changes in their order, where elements are traced. Each element that is removed is looked up by its tag.
+/// Prints changes in their order, if elements are traced. Each element that is removed is looked up by its tag.
 pub(crate) fn tell<K: Sink>(
     out: &mut Out,
     sink: &mut K,
@@ -83,7 +83,7 @@ pub(crate) fn tell<K: Sink>(
     put_changes(out, sink, names, program, store, changes)
 }
 
-/// Tells an element that is made, where elements are traced.
+/// Prints an element that is made, if elements are traced.
 pub(crate) fn tell_made<K: Sink>(
     out: &mut Out,
     sink: &mut K,

@@ -1,4 +1,4 @@
--- Lines as they are put into cells, and as they come out of them.
+-- Lines as they are put into cells and taken out of them.
 use Rattle.std.specs.Prelude.{◌≡◌, ℕ, List, [], ◌∷◌}
 use Rattle.work_store.specs.Stored.{Stored}
 use Rattle.net_base.specs.declared.net.Net.{Net}
@@ -9,7 +9,7 @@ use Rattle.steal_engine.specs.declared.rows.Row.{Row}
 abbrev pub line_in : Row → Line
 line_in x = x.cell.value.line
 
--- this line stands in the cell, as one of this many, over this network and store, and stood so when the cell was made
+-- the cell contains this line, as one of this many, over this network and store, and did so when the cell was made
 pub record IsRowOfLine (net : Net) (s : Stored) (lines : ℕ) (line : Line) (x : Row) : Type 0 where
   pub has_net : x.cell.value.net.value ≡ net
   pub has_store : x.cell.value.store.value ≡ s
@@ -17,7 +17,7 @@ pub record IsRowOfLine (net : Net) (s : Stored) (lines : ℕ) (line : Line) (x :
   pub is_line : x.cell.value.line ≡ line
   pub was_line : x.cell.value.first.value ≡ line
 
--- each of these lines stands in its cell
+-- each of these lines is in its cell
 abbrev pub AreRows : Net → Stored → ℕ → List Line → List Row → Type 0
 AreRows net s lines [] [] = Unit {0}
 AreRows net s lines [] (x ∷ xs) = ⊥

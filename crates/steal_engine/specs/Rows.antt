@@ -1,4 +1,4 @@
--- Lines in cells, and what a worker gave to them.
+-- Lines in cells, and the entries that a worker gave to them.
 use Rattle.std.specs.Prelude.{◌≡◌, ◌<◌, ℕ, List, Option, None, length, map}
 use Rattle.work_store.specs.Stored.{Stored, held_of}
 use Rattle.net_base.specs.declared.net.Net.{Net}
@@ -26,7 +26,7 @@ name x = let c = x.cell.value in record { number = c.line.number; lines = c.line
 abbrev pub signature : Entry → Option ℕ
 signature e = None
 
--- this task has the line, over this network and store
+-- this task belongs to the line, over this network and store
 pub record IsLineFor (net : Net) (s : Stored) (x : Task) (r : Row) : Type 0 where
   pub has_net : r.cell.value.net.value ≡ net
   pub has_store : r.cell.value.store.value ≡ s
@@ -52,7 +52,7 @@ pub record IsReady (fits : Task → Type 0) (cells : Cells Row Entry RowName) (n
   pub means : (x : Task) → fits x → TaskFits net.nodes s x
   pub meant : (x : Task) → TaskFits net.nodes s x → fits x
 
--- each row is a task that was done, on its line
+-- each row is a task that was performed, on its line
 abbrev pub rounds_of : List (ARow Entry) → List Round
 rounds_of rows = map (λ (r : ARow Entry). round r.entry.task r.entry.children) rows
 

@@ -1,4 +1,4 @@
--- What a worker begins with, and how it has ended.
+-- What a worker begins with, and its state when it has finished.
 use Rattle.std.specs.Prelude.{◌≡◌, ◌<◌, ℕ, List, [], IsTrue, length, slice_index_or}
 use Rattle.steal_engine.specs.declared.rounds.Round.{Round}
 use Rattle.steal_engine.specs.declared.seats.Seat.{Seat}
@@ -7,14 +7,15 @@ use Rattle.task_deque.specs.Ends.{own_of, pushed, popped, thief_of, thief_stolen
 use Rattle.steal_engine.specs.Sums.{AreFair}
 
 module _ {J P : Type 0} (ready : P → Type 0) (number : P → ℕ) (rounds : P → List Round) where
-  -- nothing was done, popped or stolen yet
+  -- nothing has been done, popped or stolen yet
   pub record CanBegin (s : Seat J P) : Type 0 where
     pub is_ready : ready s.pass
     pub fresh : rounds s.pass ≡ []
     pub popped_none : popped s.own ≡ []
     pub stolen_none : thief_stolen s.thief ≡ []
 
-  -- The pass and the ends are back. Where memory did not run out, all that the worker took was done, or pushed.
+  -- The pass and the ends are back. If memory did not run out, every task that the worker took was performed or
+  -- pushed.
   pub record HasEnded (s : Seat J P) (e : Worked J P) : Type 0 where
     pub is_ready : ready e.pass
     pub same_number : number e.pass ≡ number s.pass

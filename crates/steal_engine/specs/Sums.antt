@@ -1,4 +1,4 @@
--- What a worker did, and what all workers did together.
+-- What one worker did, and what all workers did together.
 use Rattle.std.specs.Prelude.{◌≡◌, ℕ, ◌+◌, List, map, flat_map, sum_by}
 use Rattle.net_base.specs.declared.tasks.Task.{Task}
 use Rattle.steal_engine.specs.declared.rounds.Round.{Round}
@@ -12,8 +12,9 @@ tasks_in rs = map (λ (r : Round). r.task) rs
 abbrev pub children_in : List Round → List Task
 children_in rs = flat_map (λ (r : Round). r.children) rs
 
--- What the worker did, with what it pushed and what is left in its list, is the children of that, with what was dealt
--- to it and what it popped and stole. What was dealt is counted among what was pushed.
+-- The tasks that the worker performed, together with those that it pushed and those left in its list, are the
+-- children of those that it performed, together with those that were dealt to it and those that it popped and stole.
+-- Tasks that were dealt count among those pushed.
 abbrev pub AreFair : List Round → List Task → List Task → List Task → List Task → List Task → Type 0
 AreFair rounds dealt pushed popped stolen list =
     (h : Task → ℕ) → (sum_by h (tasks_in rounds) + sum_by h pushed) + sum_by h list ≡ ((sum_by h (children_in rounds) + sum_by h dealt) + sum_by h popped) + sum_by h stolen

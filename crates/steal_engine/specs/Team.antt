@@ -12,7 +12,7 @@ module _ {J : Type 0} where
     pub popped_none : popped e ≡ []
     pub stolen_none : stolen e ≡ []
 
-  -- the weights of all that was pushed
+  -- the sum of the weights of all tasks that were pushed
   abbrev pub weigh_pushed : (Task → ℕ) → List (OwnEnd J) → ℕ
   weigh_pushed h owns = sum_by (λ (e : OwnEnd J). sum_by h (pushed e)) owns
 
@@ -22,7 +22,7 @@ module _ {J : Type 0} where
   abbrev pub weigh_stolen : (Task → ℕ) → List (ThiefEnd J) → ℕ
   weigh_stolen h thieves = sum_by (λ (e : ThiefEnd J). sum_by h (thief_stolen e)) thieves
 
-  -- each thief's end is that of the owner's deque at its place
+  -- each thief's end is that of the deque of the owner at the same place
   abbrev pub AreOf : List (OwnEnd J) → List (ThiefEnd J) → Type 0
   AreOf owns thieves = map of owns ≡ map thief_of thieves
 

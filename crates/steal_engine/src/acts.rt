@@ -13,8 +13,8 @@ use ops_base::memory::OutOfMemory;
 use std::alloc::Global;
 use work_store::Store;
 
-/// An activation of a task with this code, on the line, at the cost of `activation::activate_coded`. Where memory runs
-/// out nothing has changed.
+/// Activates a task with this code on the line, at the cost of `activation::activate_coded`. If memory runs out,
+/// nothing has changed.
 pub(crate) fn activate_in(
     row: &mut Row,
     alloc: Global,

@@ -1,4 +1,4 @@
-//! The lines as a shared phase has them, with the network and the store of the phase.
+//! The lines in the form in which a shared phase holds them, with the network and the store of the phase.
 ghost use Rattle.std.specs.Prelude.{◌≡◌, ℕ, List, [], ◌∷◌, ◌++◌, All, OnOk, OnErr, ◌<◌, true, false};
 ghost use Rattle.work_store.specs.Stored.{held_of};
 ghost use Rattle.token_line.specs.Held.{TaskFits};
@@ -18,8 +18,8 @@ use std::snapshot::Snapshot;
 use token_line::Line;
 use work_store::Store;
 
-/// A line, with what it was when its cell was made, and the network and the store of the phase. Contracts alone see
-/// these and the number of all lines.
+/// A line, its state when its cell was made, and the network and the store of the phase. Only contracts can see the
+/// latter three and the number of all lines.
 #[derive(Drop)]
 pub(crate) struct LineCell {
     pub(crate) line: Line,
@@ -33,8 +33,8 @@ pub(crate) struct LineCell {
 }
 
 impl LineCell {
-    /// Does a task whose line this is and whose code this is: it becomes an entry with the children that are put out.
-    /// It costs what `activation::activate_coded` costs. Where memory runs out nothing has changed.
+    /// Performs a task that belongs to this line and has this code: it becomes an entry, with the children that are
+    /// put out. It costs what `activation::activate_coded` costs. If memory runs out, nothing has changed.
     pub(crate) fn activate(
         &mut self,
         alloc: Global,

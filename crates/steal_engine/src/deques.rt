@@ -1,4 +1,4 @@
-//! The deques of a team: tasks are dealt to them, and what is left in them comes back.
+//! The deques of a team: tasks are dealt to them, and what is left in them is collected.
 ghost use Rattle.std.specs.Prelude.{◌≡◌, ℕ, ◌+◌, ◌++◌, ◌∷◌, [], All, IfOk, OnOk, sum_by, length, vec_len};
 ghost use Rattle.task_deque.specs.Ends.{IsWhole, of, pushed, popped, stolen, thief_of, thief_stolen, own_of};
 ghost use Rattle.steal_engine.specs.Team.{AreOf, HasPoppedNone, HasStolenNone, IsFresh, weigh_popped, weigh_pushed, weigh_stolen};
@@ -29,7 +29,7 @@ pub(crate) fn deques<J: Fitting>(
     Ok(owns)
 }
 
-/// Pushes a task to the first deque, which then comes after the others.
+/// Pushes a task to the first deque, and moves that deque behind the others.
 fn deal_one<J: Fitting>(owns: &mut VecDeque<OwnEnd<J>>, task: Task) -> Result<(), OutOfMemory>
     requires fits { J.fits task }
     requires fresh { All IsFresh owns.old.items }
@@ -67,10 +67,10 @@ pub(crate) fn deal<J: Fitting>(
     Ok(())
 }
 
-/// All deques with the ends of their thieves, in the same order.
+/// All deques with the thieves' ends, in the same order.
 pub(crate) type Lent<J> = (VecDeque<OwnEnd<J>>, VecDeque<ThiefEnd<J>>);
 
-/// Lends the end of each thief.
+/// Hands out each thief's end.
 pub(crate) fn lend_all<J: Fitting>(
     alloc: Global,
     owns: VecDeque<OwnEnd<J>>,
@@ -114,7 +114,7 @@ fn drain<J: Fitting, R: Wait>(
     unreachable!()
 }
 
-/// Takes back the end of the first thief, that of the first deque, and takes what is left in the deque.
+/// Returns the end of the first thief to the first deque, and collects what is left in that deque.
 fn take_in<J: Fitting, R: Wait>(
     rt: &R,
     own: OwnEnd<J>,
@@ -131,7 +131,7 @@ fn take_in<J: Fitting, R: Wait>(
     drain(rt, &mut own, left)
 }
 
-/// What is left in all deques, once the ends of all thieves are back.
+/// Collects what is left in all deques, once the ends of all thieves are back.
 pub(crate) fn collect<J: Fitting, R: Wait>(
     rt: &R,
     alloc: Global,

@@ -1,4 +1,5 @@
-//! The stealing engine: a matcher over a network whose tasks are done by several threads, each with a deque of its own.
+//! The stealing engine: a matcher over a network whose tasks are performed by several threads, each with its own
+//! deque.
 #![tactic(auto)]
 
 mod acts;

@@ -1,4 +1,4 @@
-//! What the workers of a shared phase work over.
+//! The data that all workers of a shared phase use.
 use crate::rows::Row;
 use net_base::net::Net;
 use std::alloc::Global;
@@ -6,8 +6,8 @@ use std::sync::atomic::AtomicUsize;
 use turn_table::Cells;
 use work_store::Store;
 
-/// What all workers of a shared phase work over: the cells, the network, the store, how many workers have a
-/// task, and how many lines there are. No contract speaks of those that have a task.
+/// The data that all workers of a shared phase use: the cells, the network, the store, the number of workers that
+/// have a task, and the number of lines. No contract mentions the number of workers that have a task.
 #[derive(Clone, Copy)]
 pub(crate) struct Phase<'a> {
     pub(crate) alloc: Global,

@@ -1,4 +1,4 @@
-//! The stealing engine: a phase, with help of workers that have a deque each.
+//! The stealing engine: a phase, with the help of workers that have a deque each.
 ghost use Rattle.std.specs.Prelude.{◌≡◌, ◌≤◌, ◌^◌, All, IfOk, OnOk, [], length, map};
 ghost use Rattle.std.specs.Thread.{IsSync};
 ghost use Rattle.ops_base.specs.WorkingMemory.{Lawful, done, last_after};
@@ -26,15 +26,16 @@ use step_core::{Gathered, Parts, World, gather_worked};
 use team_phase::{Load, Sharing, run_phase as run_with_help};
 use work_store::Store;
 
-/// When it pays to share. To start and join four threads, and to move 1,024 lines to cells and back, takes as long as
-/// some 500 units. A task that looks at fewer than 16 partners takes little longer than a turn, a push and a steal.
+/// When it pays to share. Starting and joining four threads, and moving 1,024 lines to cells and back, takes as long
+/// as some 500 units. A task that examines fewer than 16 partners takes little longer than a turn, a push and a
+/// steal.
 pub(crate) const WORTH: Worth = Worth {
     alone: 1_000,
     in_hand: 1_000,
     of_a_task: 2,
 };
 
-/// Does the load, and what comes of it, by a team. What the workers leave comes back in flight.
+/// Performs the load, and tasks that result, by a team. The tasks that the workers leave come back in flight.
 fn share_all<R: Threads + Wait + Sync, G: Gate>(
     rt: &R,
     alloc: Global,
@@ -50,7 +51,7 @@ fn share_all<R: Threads + Wait + Sync, G: Gate>(
     Ok(parts)
 }
 
-/// Does the phase of these changes, which the store has done. The lines begin it.
+/// Runs the phase of these changes, which the store has already done. At the start the lines begin the phase.
 fn run_phase<R: Threads + Wait + Sync, G: Gate>(
     rt: &R,
     alloc: Global,
@@ -80,8 +81,9 @@ fn run_phase<R: Threads + Wait + Sync, G: Gate>(
     run_with_help(&help, alloc, net, store, gate, world, sharing, changes)
 }
 
-/// Does the changes to the store, and their phase over lines that hold just the tokens over it. The lines then hold
-/// just the tokens over the store with the changes done, and their entries are a bundle of the changes.
+/// Does the changes to the store and runs their phase, starting from lines that hold exactly the tokens over the
+/// store. Afterwards the lines hold exactly the tokens over the store with the changes done, and their entries are a
+/// bundle of the changes.
 pub(crate) fn settle<R: Threads + Wait + Sync, G: Gate>(
     rt: &R,
     alloc: Global,

@@ -8,7 +8,7 @@ use std::alloc::Global;
 use std::collections::VecDeque;
 use task_deque::{Fitting, OwnEnd, ThiefEnd};
 
-/// The first thief comes after the others.
+/// Moves the first thief behind the others.
 pub(crate) fn turn<J: Fitting>(
     thieves: VecDeque<ThiefEnd<J>>,
 ) -> Result<VecDeque<ThiefEnd<J>>, OutOfMemory>
@@ -22,7 +22,7 @@ pub(crate) fn turn<J: Fitting>(
     Ok(thieves)
 }
 
-/// The last thief comes before the others.
+/// Moves the last thief before the others.
 pub(crate) fn turn_back<J: Fitting>(
     thieves: VecDeque<ThiefEnd<J>>,
 ) -> Result<VecDeque<ThiefEnd<J>>, OutOfMemory>
@@ -36,7 +36,7 @@ pub(crate) fn turn_back<J: Fitting>(
     Ok(thieves)
 }
 
-/// A seat for each pass: with the owner and the thief at its place.
+/// A seat for each pass, with the owner and the thief at the same place.
 pub(crate) fn seat_all<J: Fitting, P: Drop>(
     alloc: Global,
     passes: VecDeque<P>,
@@ -65,7 +65,7 @@ pub(crate) fn seat_all<J: Fitting, P: Drop>(
     Ok(seats)
 }
 
-/// What all workers bring back. `whole` says that memory ran out at none.
+/// What all workers bring back. `whole` is true if none of them ran out of memory.
 #[derive(Drop)]
 pub(crate) struct Returned<J: Fitting, P> {
     pub(crate) passes: VecDeque<P>,

@@ -18,7 +18,7 @@ pub(crate) struct Row {
     pub(crate) cell: Box<LineCell>,
 }
 
-/// What no turn changes. No value of it is made.
+/// What no turn changes. No value of this type is ever made.
 pub(crate) struct RowName {
     pub(crate) number: usize,
     pub(crate) lines: usize,
@@ -45,7 +45,7 @@ impl Kept for Row {
     }
 }
 
-/// One of this many lines. It moves the line.
+/// A row with one of this many lines. It moves the line.
 fn row_of(
     alloc: Global,
     net: &Net,
@@ -68,8 +68,8 @@ fn row_of(
     Ok(Row { cell })
 }
 
-/// The lines as they stand in cells. It moves each line, and takes memory for each. Where memory runs out the lines are
-/// let go.
+/// Puts the lines into rows. It moves each line, and takes memory for each. If memory runs out, the lines are
+/// dropped.
 pub(crate) fn open(
     alloc: Global,
     net: &Net,

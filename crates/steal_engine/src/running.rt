@@ -1,4 +1,4 @@
-//! All workers of a shared phase in a ring: each takes from the deque of the next.
+//! All workers of a shared phase in a ring: each steals from the deque of the next.
 ghost use Rattle.std.specs.Prelude.{◌≡◌, [], All, IfOk, OnOk, length};
 ghost use Rattle.turn_table.specs.Turns.{IsFirstOf, knows, splits, split_off};
 ghost use Rattle.steal_engine.specs.Logged.{AreJoined, AreNext, AreReadyFrom, Balanced};
@@ -36,7 +36,7 @@ pub(crate) fn join_all(cells: &Cells<Row>, first: &mut Pass<Row>, passes: VecDeq
     }
 }
 
-/// All workers at once, each with a deque of its own, and then what is left in the deques.
+/// Runs all workers at once, each with its own deque, and then collects what is left in the deques.
 pub(crate) fn run_ring<R: Threads + Wait + Sync, G: Gate, J: Fitting + Send + Sync>(
     rt: &R,
     phase: &Phase<'_>,

@@ -1,7 +1,7 @@
 //! What a worker begins with, and what it brings back.
 use task_deque::{Fitting, OwnEnd, ThiefEnd};
 
-/// A worker's pass, its end of its own deque, and its end of its victim's.
+/// A worker's pass, the owner's end of its own deque, and the thief's end of its victim's deque.
 #[derive(Drop)]
 pub(crate) struct Seat<J: Fitting, P> {
     pub(crate) pass: P,
@@ -9,7 +9,7 @@ pub(crate) struct Seat<J: Fitting, P> {
     pub(crate) thief: ThiefEnd<J>,
 }
 
-/// A worker that has ended. `whole` says that memory did not run out.
+/// A worker that has finished. `whole` is true if it did not run out of memory.
 #[derive(Drop)]
 pub(crate) struct Worked<J: Fitting, P> {
     pub(crate) pass: P,

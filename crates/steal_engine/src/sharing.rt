@@ -1,5 +1,5 @@
 //! A shared phase: lines go into cells and tasks in flight into deques, each worker gets a pass and a thread, all are
-//! joined, and the lines come back, with the tasks that were left.
+//! joined, and the lines come back with the tasks that were left.
 ghost use Rattle.std.specs.Prelude.{◌≡◌, ◌<◌, ◌≤◌, ◌^◌, [], All, IfOk, OnOk, length, map};
 ghost use Rattle.net_base.specs.declared.tasks.Task.{Task};
 ghost use Rattle.token_line.specs.Held.{TaskFits};
@@ -57,9 +57,9 @@ pub(crate) fn split_all(
     Ok(passes)
 }
 
-/// The lines, once all workers were joined, with the tasks that were left. Each phase that was on its way in the lines
-/// that were opened is on its way in these. It moves each line twice, and waits for nothing. Where memory runs out the
-/// lines are let go.
+/// The lines, once all workers were joined, with the tasks that were left. Each phase that was in progress in the
+/// lines that were opened is in progress in these. It moves each line twice, and waits for nothing. If memory runs
+/// out, the lines are dropped.
 pub(crate) fn close(
     alloc: Global,
     net: &Net,
@@ -81,7 +81,7 @@ pub(crate) fn close(
     ensures numbers { IfOk result (λ p. map (λ l. l.number) p.lines.items ≡ map (λ l. l.number) opened.now.value.lines.items) }
     ensures some { IfOk result (λ p. 1 ≤ length p.lines.items) }
 {
-    // Contracts alone look at these.
+    // Only contracts read these.
     let _net = net;
     let _store = store;
     let _opened = opened;
@@ -95,7 +95,7 @@ pub(crate) fn close(
     })
 }
 
-/// As `share`, with deques of tasks that fit.
+/// As `share`, with deques of tasks that are known to fit.
 fn share_picked<R: Threads + Wait + Sync, G: Gate, J: Fitting + Send + Sync>(
     rt: &R,
     alloc: Global,
@@ -137,9 +137,9 @@ fn share_picked<R: Threads + Wait + Sync, G: Gate, J: Fitting + Send + Sync>(
     close(alloc, net, store, cells, first, &opened, left)
 }
 
-/// Does tasks in flight, and what comes of them, by this many workers. It starts a thread for each but one, moves each
-/// line twice, and waits for all workers. Tasks that a worker left in its deque when it ended are in flight in what
-/// comes back. Where memory runs out at one of them, the others go on to their ends.
+/// Performs tasks in flight, and tasks that result, by this many workers. It starts a thread for each but one, moves
+/// each line twice, and waits for all workers. Tasks that a worker left in its deque when it stopped are in flight in
+/// the result. If memory runs out at one of them, the others continue until they are done.
 pub(crate) fn share<R: Threads + Wait + Sync, G: Gate>(
     rt: &R,
     alloc: Global,

@@ -15,8 +15,8 @@ use std::thread::{Threads, map_vec};
 use task_deque::Fitting;
 use turn_table::Pass;
 
-/// All workers at once, each at its seat in a thread of its own, and one of them on the calling thread. Where a thread
-/// can't be started, its work is done on the thread that wanted to start it. It waits for all of them.
+/// Runs all workers at once, each at its seat in a thread of its own, and one of them on the calling thread. If a
+/// thread can't be started, its work is done on the thread that tried to start it. It waits for all of them.
 pub(crate) fn work_all<R: Threads + Wait + Sync, G: Gate, J: Fitting + Send + Sync>(
     rt: &R,
     phase: &Phase<'_>,

@@ -1,4 +1,4 @@
-//! A worker: it takes tasks from its list, from its deque and from its victim's, and does them on lines in cells.
+//! A worker: it takes tasks from its list, its own deque and its victim's deque, and performs them on lines in cells.
 ghost use Rattle.std.specs.Prelude.{◌≡◌, ℕ, ◌+◌, ⊤, List, [], ◌∷◌, ◌++◌, All, IfSome, IsTrue, MatchOption, option_to_list, sum_by};
 ghost use Rattle.net_base.specs.declared.tasks.Task.{Task};
 ghost use Rattle.task_deque.specs.Ends.{own_of, popped, pushed, thief_of, thief_stolen};
@@ -20,14 +20,15 @@ use task_deque::{Fitting, OwnEnd, ThiefEnd};
 use token_line::place_of;
 use turn_table::Pass;
 
-/// A worker pushes while its deque has fewer tasks than this.
+/// A worker pushes tasks only while its deque has fewer than this.
 const FEW: usize = 8;
 
-/// So often a worker that had no task yet looks for one where none has any: the others may be about to begin. To start
-/// a thread takes longer than to look.
+/// A worker that has not had a task yet looks this many times while no worker has one: the others may be about to
+/// begin. Starting a thread takes longer than looking.
 const FIRST_LOOKS: usize = 64;
 
-/// Pushes tasks from the end of the list while few stand in the deque; one stays. What is refused stays too.
+/// Pushes tasks from the end of the list while there are few in the deque. One task stays in the list, and so does a
+/// task that the deque refuses.
 pub(crate) fn push_some<J: Fitting>(own: &mut OwnEnd<J>, list: &mut Vec<Task>)
     requires { All J.fits list.old.items }
     ensures fit { All J.fits list.new.items }
@@ -50,7 +51,7 @@ pub(crate) fn push_some<J: Fitting>(own: &mut OwnEnd<J>, list: &mut Vec<Task>)
     }
 }
 
-/// The next task: of the list, of the own deque, or of the victim's.
+/// The next task: from the list, from the worker's own deque, or from the victim's.
 pub(crate) fn next_task<J: Fitting>(
     own: &mut OwnEnd<J>,
     thief: &mut ThiefEnd<J>,
@@ -74,8 +75,8 @@ pub(crate) fn next_task<J: Fitting>(
     thief.steal()
 }
 
-/// Does a task on its line, after the gate: its children come after those in the list. False where there was no memory.
-/// It waits for a turn of the line.
+/// Performs a task on its line, after calling the gate, and appends its children to the list. Returns false if there
+/// was not enough memory. It waits for a turn of the line.
 pub(crate) fn do_task<R: Wait, G: Gate, J: Fitting>(
     rt: &R,
     phase: &Phase<'_>,
@@ -110,8 +111,9 @@ pub(crate) fn do_task<R: Wait, G: Gate, J: Fitting>(
     }
 }
 
-/// Tasks until no worker has one, or memory runs out. A worker that finds none backs off and looks again while another
-/// one works, since that one may push some. No clause speaks of who is at work: a worker that ends early leaves tasks.
+/// Performs tasks until no worker has one, or memory runs out. A worker that finds none backs off and looks again
+/// while another worker is busy, since that one may push some. No clause says which workers are busy: a worker that
+/// stops early leaves tasks.
 pub(crate) fn work<R: Wait, G: Gate, J: Fitting>(
     rt: &R,
     phase: &Phase<'_>,
@@ -162,9 +164,9 @@ pub(crate) fn work<R: Wait, G: Gate, J: Fitting>(
     unreachable!()
 }
 
-/// Whether a worker is counted among those at work, how often it still looks where none is, and how long it looked in
-/// vain. It is counted once it has a task, and not before: where a thread can't be started, its worker begins after
-/// another one on the same thread has ended.
+/// Whether a worker is counted as busy, how many more times it looks when no worker is busy, and how long it has
+/// looked in vain. A worker is counted only once it has a task: if a thread can't be started, its worker begins after
+/// another one on the same thread has finished.
 #[derive(Drop)]
 struct Presence {
     backoff: Backoff,
@@ -191,7 +193,7 @@ impl Presence {
         self.backoff.reset();
     }
 
-    /// The worker has none.
+    /// The worker has no task.
     fn rest(&mut self, busy: &AtomicUsize) {
         if self.counted {
             let _others = busy.fetch_sub(1, Ordering::SeqCst);
@@ -199,7 +201,7 @@ impl Presence {
         }
     }
 
-    /// Whether the worker, which has no task, ends: no worker has one, and it looked often enough.
+    /// Whether the worker, which has no task, stops: no worker has a task, and it has looked enough times.
     fn is_over(&mut self, busy: &AtomicUsize) -> bool {
         if busy.load(Ordering::SeqCst) > 0 {
             return false;

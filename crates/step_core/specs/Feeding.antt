@@ -1,4 +1,4 @@
--- What is asked of a change that is fed, and the nodes that take its element.
+-- What must hold of a change that is fed, and the nodes that take its element.
 use Rattle.std.specs.Prelude.{◌≡◌, ◌≢◌, ℕ, Bool, true, List, [], ◌∷◌, slice_get, Some, IsSome, AllPairs, Contains, if◌then◌else◌}
 use Rattle.ops_base.specs.declared.elements.Element.{Element}
 use Rattle.work_store.specs.Stored.{Stored, held_of}
@@ -11,7 +11,7 @@ use Rattle.net_base.specs.declared.tasks.Task.{Task}
 use Rattle.net_base.specs.Feeds.{takers_of}
 use Rattle.step_core.specs.Machine.{is_fed, passes_in}
 
--- the store holds the element that comes, or some element under the tag that goes
+-- the store holds the element that is added, or some element under the tag that is removed
 abbrev pub IsKnown : Stored → Change → Type 0
 IsKnown s (Add e) = held_of s e.tag ≡ Some e
 IsKnown s (Remove tag) = IsSome (held_of s tag)
@@ -32,6 +32,6 @@ pub record AreTakers (alphas : List Alpha) (nodes : List Node) (e : Element) (ns
   pub only : (n : ℕ) → Contains ns n → IsTaker alphas nodes e n
   pub once : AllPairs (λ n m. n ≢ m) ns
 
--- what an alpha adds to them
+-- what an alpha adds to these numbers
 abbrev pub taken_by : List Alpha → List Node → Element → ℕ → List ℕ
 taken_by alphas nodes e n = if passes_in (slice_get alphas n) (Some e) then takers_of nodes n else []

@@ -1,4 +1,4 @@
--- The laws over every list of steps, and over every bundle.
+-- The laws of every list of steps, and of every bundle.
 use Rattle.std.specs.Prelude.{◌≡◌, ◌≤◌, ◌<◌, ◌^◌, ◌↔◌, ◌⊎◌, ℕ, ◌+◌, List, [], ◌∷◌, ◌++◌, pos, ◌+ℤ◌, length, map, slice_get, Some, All, Contains}
 use Rattle.ops_base.specs.declared.elements.Element.{Element}
 use Rattle.ops_base.specs.declared.elements.Change.{Change}
@@ -22,33 +22,33 @@ use Rattle.token_line.specs.Lawful.{giver_of, out_at, IsLawful}
 use Rattle.step_core.specs.Machine.{Placing, place_of, KeepsOneLine, Seen, with_entry, fed_by_all, World, Step, Feed, Activate, Finish, Clear, Run, changes_of, start}
 use Rattle.step_core.specs.Phases.{total, HoldJust, sums_over, tasks_of, children_of, now, entries_of, AreSame, IsPhase, IsBundle}
 
--- ---- what tags name
+-- ---- what tags refer to
 
--- the tag of each element of working memory names it
+-- the tag of each element of working memory refers to that element
 abbrev pub NamesWm : Elements → List Element → Type 0
 NamesWm elements wm = (e : Element) → Contains wm e → elements e.tag ≡ Some e
 
--- a tag that was added names the element that was added
+-- a tag that was added refers to the element that was added
 abbrev pub NamesAdded : Elements → List Change → Type 0
 NamesAdded elements changes = (e : Element) → Contains changes (Add e) → elements e.tag ≡ Some e
 
 -- ---- balance
 
--- what a giver has put out to a side over these sums, where `memory` is what the changes have given
+-- what a giver has put out to a side over these sums; `memory` is what the changes have put out
 abbrev pub put_out : Elements → List Node → Bag → Bag → Giver → Bag
 put_out elements nodes memory b Nothing n s t = pos 0
 put_out elements nodes memory b Root n s t = pos (root_gives t)
 put_out elements nodes memory b Memory n s t = memory n s t
 put_out elements nodes memory b (Out p) n s t = pos (out_at elements nodes b p t)
 
--- each sum, together with the signs of the tasks that are under way, is what the giver of its side has put out
+-- each sum, together with the signs of the pending tasks, is what the giver of its side has put out
 abbrev pub IsBalanced : Elements → List Node → Bag → Bag → List Task → Type 0
 IsBalanced elements nodes memory b pending =
     (n : ℕ) (s : Side) (t : List ℕ) → b n s t +ℤ signs n s t pending ≡ put_out elements nodes memory b (giver_of nodes n s) n s t
 
 -- ---- premises
 
--- the network is sound, tokens that go together have one line, and there are this many lines
+-- the network is sound, tokens that go together have the same line, and there are this many lines
 pub record IsPlaced (elements : Elements) (alphas : List Alpha) (nodes : List Node) (line : Placing) (lines : ℕ) : Type 0 where
   pub sound : IsSound alphas nodes
   pub one_line : KeepsOneLine elements nodes line
@@ -68,7 +68,7 @@ NoClear (Clear ∷ ss) = ⊥
 
 -- ---- the laws of all lists of steps
 
--- nothing is under way, no line has an entry, and the lines hold just this
+-- nothing is pending, no line has an entry, and the lines hold exactly these sums
 pub record IsAtRest (line : Placing) (b : Bag) (w : World) : Type 0 where
   pub counter : w.counter ≡ 0
   pub flight : w.flight ≡ []
@@ -82,20 +82,20 @@ StartLaw =
     (elements : Elements) (alphas : List Alpha) (nodes : List Node) (line : Placing) (lines : ℕ)
     → IsPlaced elements alphas nodes line lines → IsAtRest line (sums_over [] alphas nodes) (start nodes line lines)
 
--- the counter is the number of tasks in flight together with the entries that are done
+-- the counter is the number of tasks in flight plus the number of entries that are done
 abbrev pub CounterLaw : Type 0
 CounterLaw =
     (elements : Elements) (alphas : List Alpha) (nodes : List Node) (line : Placing) (lines : ℕ) (ss : List Step) (w : World)
     → Run elements alphas nodes line (start nodes line lines) ss w → w.counter ≡ length w.flight + length w.done
 
--- the sums that arrived, together with what is under way, are what the givers have put out
+-- the sums that arrived, together with the pending tasks, are what the givers have put out
 abbrev pub BalanceLaw : Type 0
 BalanceLaw =
     (elements : Elements) (alphas : List Alpha) (nodes : List Node) (line : Placing) (lines : ℕ) (ss : List Step) (w : World)
     → IsPlaced elements alphas nodes line lines → Run elements alphas nodes line (start nodes line lines) ss w
     → IsBalanced elements nodes (λ n s t. signs n s t (fed_by_all elements alphas nodes (changes_of ss))) (total (map now w.lines)) (w.flight ++ children_of w.done)
 
--- where the changes are lawful from an empty working memory and the counter is 0, the lines hold just the tokens over
+-- if the changes are lawful from an empty working memory and the counter is 0, the lines hold exactly the tokens over
 -- working memory
 abbrev pub ZeroLaw : Type 0
 ZeroLaw =
@@ -106,27 +106,27 @@ ZeroLaw =
 
 -- ---- the tokens over working memory
 
--- each stands at most once at a side of a node
+-- each token occurs at most once at a side of a node
 abbrev pub OnceLaw : Type 0
 OnceLaw = (wm : List Element) (alphas : List Alpha) (nodes : List Node) → IsSound alphas nodes → (n : ℕ) (t : List ℕ) → (left_tokens wm alphas nodes n t ≤ 1) × (right_tokens wm alphas nodes n t ≤ 1)
 
--- at the terminal of each rule these lines hold its instantiations, each once, and no other token
+-- at the terminal of each rule, these lines hold its instantiations, each once, and no other token
 abbrev pub HoldInsts : Net → List Rule → List Element → List Bag → Type 0
 HoldInsts net rules wm bags =
     (n k : ℕ) (x : Node) → slice_get net.nodes n ≡ Some x → x.kind ≡ Terminal k → (t : List ℕ)
     → ((total bags n Left t ≡ pos 1) ↔ IsInst rules wm (record { rule = k; tags = t })) × ((total bags n Left t ≡ pos 1) ⊎ (total bags n Left t ≡ pos 0))
 
--- where the network is that of the rules, lines that hold just the tokens over working memory hold the instantiations
+-- if the network is that of the rules, lines that hold exactly the tokens over working memory hold the instantiations
 abbrev pub TerminalLaw : Type 0
 TerminalLaw =
     (net : Net) (rules : List Rule) (line : Placing) (wm : List Element) (bags : List Bag)
     → NetOf net rules → IsWm wm → HoldJust line (sums_over wm net.alphas net.nodes) bags → HoldInsts net rules wm bags
 
--- the added tags are of 64 bits
+-- the tags that are added fit in 64 bits
 abbrev pub AreSmall : List Change → Type 0
 AreSmall changes = (e : Element) → Contains changes (Add e) → e.tag < 2 ^ 64
 
--- so the terminals hold the conflict set at a counter of 0
+-- therefore the terminals hold the conflict set whenever the counter is 0
 abbrev pub InstLaw : Type 0
 InstLaw =
     (net : Net) (rules : List Rule) (elements : Elements) (line : Placing) (lines : ℕ) (ss : List Step) (w : World) (last : ℕ)
@@ -136,13 +136,13 @@ InstLaw =
 
 -- ---- the laws of phases
 
--- All entries of the lines are those that are finished together with those that are done. Their tasks together with the
--- tasks in flight are those that were fed together with the children of the finished entries.
+-- The entries of the lines are those that are finished together with those that are done. Their tasks, together with
+-- the tasks in flight, are those that were fed together with the children of the finished entries.
 pub record IsTallied (fed : List Task) (finished : List Entry) (w : World) : Type 0 where
   pub entries : AreSame (entries_of w.lines) (finished ++ w.done)
   pub tasks : AreSame (tasks_of (entries_of w.lines) ++ w.flight) (fed ++ children_of finished)
 
--- since the lines had no entries at a counter of 0
+-- since the lines had no entries and the counter was 0
 abbrev pub TaskLaw : Type 0
 TaskLaw =
     (elements : Elements) (alphas : List Alpha) (nodes : List Node) (line : Placing) (lines : ℕ) (earlier phase : List Step) (w w' : World)
@@ -151,13 +151,14 @@ TaskLaw =
     → NoClear phase → Run elements alphas nodes line w phase w'
     → (finished : List Entry) × IsTallied (fed_by_all elements alphas nodes (changes_of phase)) finished w'
 
--- an entry that is lawful over a line's sums, and whose task has that line, joins the line's phase
+-- an entry that is lawful over a line's sums, and whose task belongs to that line, can be appended to the line's
+-- phase
 abbrev pub EntryLaw : Type 0
 EntryLaw =
     (elements : Elements) (nodes : List Node) (line : Placing) (i : ℕ) (l : Seen) (e : Entry)
     → IsPhase elements nodes line i l → place_of line e.task ≡ i → IsLawful elements nodes l.sums e → IsPhase elements nodes line i (with_entry l e)
 
--- what steps do from one counter of 0 to another is a bundle of the changes that they feed
+-- the steps from one moment with the counter at 0 to another make a bundle of the changes that they feed
 abbrev pub PhaseLaw : Type 0
 PhaseLaw =
     (elements : Elements) (alphas : List Alpha) (nodes : List Node) (line : Placing) (lines : ℕ) (earlier phase : List Step) (w w' : World) (last : ℕ)
@@ -167,7 +168,7 @@ PhaseLaw =
     → NoClear phase → Run elements alphas nodes line w phase w' → w'.counter ≡ 0
     → IsBundle elements alphas nodes line (done [] (changes_of earlier)) (changes_of phase) w'.lines
 
--- so it is from any world at rest, however it came about
+-- the same from any world at rest, however it was reached
 abbrev pub SettleLaw : Type 0
 SettleLaw =
     (elements : Elements) (alphas : List Alpha) (nodes : List Node) (line : Placing) (wm : List Element) (phase : List Step) (w w' : World)
@@ -175,8 +176,8 @@ SettleLaw =
     → NoClear phase → Run elements alphas nodes line w phase w' → w'.counter ≡ 0
     → IsBundle elements alphas nodes line wm (changes_of phase) w'.lines
 
--- at the end of each bundle of lawful changes the lines hold just the tokens over the working memory that the changes
--- make
+-- at the end of each bundle of lawful changes, the lines hold exactly the tokens over the working memory that results
+-- from the changes
 abbrev pub BundleLaw : Type 0
 BundleLaw =
     (elements : Elements) (alphas : List Alpha) (nodes : List Node) (line : Placing) (wm : List Element) (last : ℕ) (changes : List Change) (ls : List Seen)

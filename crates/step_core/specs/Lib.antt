@@ -1,4 +1,4 @@
--- The steps of a match, the laws of it, and the world in which code takes the steps.
+-- The steps of a match, their laws, and the world in which the code takes the steps.
 pub mod Machine
 pub mod Phases
 pub mod Rounds

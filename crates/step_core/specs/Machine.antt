@@ -16,20 +16,20 @@ use Rattle.token_line.specs.Lawful.{giver_of, IsLawful}
 
 -- ---- lines
 
--- on which line a token of one side of a node stands
+-- the line of each token of one side of a node
 abbrev pub Placing : Type 0
 Placing = ℕ → Side → List ℕ → ℕ
 
 abbrev pub place_of : Placing → Task → ℕ
 place_of line x = line x.node x.side x.token
 
--- a left token and a right token that goes with it have one line
+-- a left token and a right token that goes with it have the same line
 abbrev pub KeepsOneLine : Elements → List Node → Placing → Type 0
 KeepsOneLine elements nodes line =
     (n : ℕ) (x : Node) (t r : List ℕ) → slice_get nodes n ≡ Some x
     → goes_with x.kind x.joins elements t r ≡ true → line n Left t ≡ line n Right r
 
--- what is seen of a line: its sums, and the entries since its list was last empty
+-- the contracts' view of a line: its sums, and its entries since the list was last emptied
 pub record Seen : Type 0 where
   pub sums : Bag
   pub entries : List Entry
@@ -40,13 +40,13 @@ with_entry l e = record { sums = after l.sums e.task; entries = l.entries ++ e �
 abbrev pub cleared : Seen → Seen
 cleared l = record { sums = l.sums; entries = [] }
 
--- the sums of line i, all 0 where there is no such line
+-- the sums of line i, all 0 if there is no such line
 abbrev pub sums_at : ℕ → List Seen → Bag
 sums_at i [] n s t = pos 0
 sums_at zero (l ∷ ls) n s t = l.sums n s t
 sums_at (suc i) (l ∷ ls) n s t = sums_at i ls n s t
 
--- the lines with the entry at the end of line i
+-- the lines after the entry was appended to line i
 abbrev pub add_entry : ℕ → Entry → List Seen → List Seen
 add_entry i e [] = []
 add_entry zero e (l ∷ ls) = with_entry l e ∷ ls
@@ -59,7 +59,7 @@ passes_in None e = false
 passes_in (Some a) None = false
 passes_in (Some a) (Some e) = passes_alpha a e
 
--- the node takes elements, and its alpha lets this one pass
+-- the node takes elements, and its alpha passes this one
 abbrev pub is_fed : List Alpha → Option Element → Node → Bool
 is_fed alphas e x = takes_elements x.kind && passes_in (slice_get alphas x.alpha) e
 
@@ -68,12 +68,12 @@ abbrev pub task_at : List Alpha → Bool → ℕ → Option Element → ℕ → 
 task_at alphas plus tag e i None = []
 task_at alphas plus tag e i (Some x) = if is_fed alphas e x then record { node = i; side = Right; plus = plus; token = tag ∷ [] } ∷ [] else []
 
--- its tasks for the nodes below the bound, in their order
+-- its tasks for the nodes with numbers below the bound, in their order
 abbrev pub tasks_below : List Alpha → List Node → Bool → ℕ → Option Element → ℕ → List Task
 tasks_below alphas nodes plus tag e zero = []
 tasks_below alphas nodes plus tag e (suc i) = tasks_below alphas nodes plus tag e i ++ task_at alphas plus tag e i (slice_get nodes i)
 
--- one right task for each node that the change's element is for, plus where it comes and minus where it goes
+-- one right task for each node that takes the change's element: plus if it is added, minus if it is removed
 abbrev pub fed_by : Elements → List Alpha → List Node → Change → List Task
 fed_by elements alphas nodes (Add e) = tasks_below alphas nodes true e.tag (Some e) (length nodes)
 fed_by elements alphas nodes (Remove tag) = tasks_below alphas nodes false tag (elements tag) (length nodes)
@@ -96,8 +96,8 @@ pub data Step : Type 0 where
   Finish : ℕ → Step
   Clear : Step
 
--- Task i leaves the flight. Its entry, whose children follow the sums of the task's line, joins that line and those
--- that are done.
+-- Task i leaves the flight. Its entry, whose children follow from the sums of the task's line, is appended to that
+-- line and to the entries that are done.
 pub record Activates (elements : Elements) (nodes : List Node) (line : Placing) (old : World) (i : ℕ) (new : World) : Type 0 where
   pub entry : Entry
   pub task : slice_get old.flight i ≡ Some entry.task
@@ -109,7 +109,7 @@ pub record Activates (elements : Elements) (nodes : List Node) (line : Placing) 
     counter = old.counter;
   }
 
--- Entry j leaves those that are done, and its children are put into flight.
+-- Entry j leaves the entries that are done, and its children are put into flight.
 pub record Finishes (old : World) (j : ℕ) (new : World) : Type 0 where
   pub entry : Entry
   pub was : slice_get old.done j ≡ Some entry
@@ -132,7 +132,7 @@ with_tasks old tasks = record {
 abbrev pub with_lines : World → List Seen → World
 with_lines old ls = record { lines = ls; flight = old.flight; done = old.done; counter = old.counter }
 
--- what a step does; the lines are cleared only at a counter of 0
+-- what a step does; the lines may be cleared only when the counter is 0
 abbrev pub Steps : Elements → List Alpha → List Node → Placing → World → Step → World → Type 0
 Steps elements alphas nodes line old (Feed change) new = new ≡ with_tasks old (fed_by elements alphas nodes change)
 Steps elements alphas nodes line old (Activate i) new = Activates elements nodes line old i new
@@ -166,7 +166,7 @@ root_part (Out p) t = 0
 abbrev pub sums_at_start : List Node → Bag
 sums_at_start nodes n s t = pos (root_part (giver_of nodes n s) t)
 
--- what of these sums stands on line i
+-- the part of these sums that is on line i
 abbrev pub on_line : Placing → ℕ → Bag → Bag
 on_line line i b n s t = if line n s t == i then b n s t else pos 0
 

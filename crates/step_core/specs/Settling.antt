@@ -33,7 +33,7 @@ use Rattle.step_core.specs.Worlds.{placed, seen}
 
 -- ---- what a network finds
 
--- the token of the instantiation stands at the terminal of its rule
+-- the token of the instantiation is at the terminal of its rule
 pub record IsFound (alphas : List Alpha) (nodes : List Node) (wm : List Element) (i : Inst) : Type 0 where
   pub n : ℕ
   pub node : Node
@@ -41,31 +41,31 @@ pub record IsFound (alphas : List Alpha) (nodes : List Node) (wm : List Element)
   pub kind : node.kind ≡ Terminal i.rule
   pub stands : left_tokens wm alphas nodes n i.tags ≡ 1
 
--- what is found is just that, in the order of rule and tags
+-- the instantiations found are exactly these, in the order of rule and tags
 abbrev pub FoundLaw : Type 0
 FoundLaw =
     (alphas : List Alpha) (nodes : List Node) (wm : List Element) → IsSound alphas nodes → HasRisingTags wm
     → ((i : Inst) → Contains (found_over alphas nodes wm) i ↔ IsFound alphas nodes wm i) × IsInOrder (found_over alphas nodes wm)
 
--- where the network is that of the rules it is their conflict set
+-- if the network is that of the rules, they are the conflict set of the rules
 abbrev pub FoundSetLaw : Type 0
 FoundSetLaw = (net : Net) (rules : List Rule) (wm : List Element) → NetOf net rules → IsWm wm → IsConflictSet rules wm (found_over net.alphas net.nodes wm)
 
--- over nothing nothing is found
+-- over an empty working memory nothing is found
 abbrev pub FoundNoneLaw : Type 0
 FoundNoneLaw = (alphas : List Alpha) (nodes : List Node) → IsSound alphas nodes → found_over alphas nodes [] ≡ []
 
 -- ---- lines
 
--- the line that a token's code gives is a placing
+-- `line_number` gives a valid placing
 abbrev pub PlacedLaw : Type 0
 PlacedLaw = (elements : Elements) (alphas : List Alpha) (nodes : List Node) (lines : ℕ) → IsSound alphas nodes → 1 ≤ lines → IsPlaced elements alphas nodes (placed elements nodes lines) lines
 
--- a child's node comes after the node that gives to it
+-- a child's node comes after the node that feeds it
 abbrev pub ChildLaw : Type 0
 ChildLaw = (alphas : List Alpha) (nodes : List Node) (p : ℕ) (x : Task) → IsSound alphas nodes → IsChildOf nodes p x → (p < x.node) × (x.node < length nodes)
 
--- an entry more leaves the sums at the start of the phase
+-- one more entry does not change the sums at the start of the phase
 abbrev pub EntryStartLaw : Type 0
 EntryStartLaw = (l : Seen) (e : Entry) (n : ℕ) (s : Side) (t : List ℕ) → before (with_entry l e) n s t ≡ before l n s t
 
@@ -73,7 +73,8 @@ EntryStartLaw = (l : Seen) (e : Entry) (n : ℕ) (s : Side) (t : List ℕ) → b
 abbrev pub HoldsWm : List Element → Stored → Type 0
 HoldsWm wm s = (tag : ℕ) (e : Element) → of_tag wm tag ≡ Some e → held_of s tag ≡ Some e
 
--- lines that hold just the tokens over working memory are as well counted, and placed, by any other store that holds it
+-- if lines hold exactly the tokens over working memory by one store that holds it, they are counted and placed by any
+-- other store that holds it
 abbrev pub RestLaw : Type 0
 RestLaw =
     (alphas : List Alpha) (nodes : List Node) (wm : List Element) (s s' : Stored) (ls : List Line) → IsSound alphas nodes → 1 ≤ length ls
@@ -83,7 +84,7 @@ RestLaw =
 
 -- ---- stores
 
--- the store s' holds all that a phase of these changes to the store s looks up
+-- the store s' holds everything that a phase of these changes to the store s looks up
 pub record HoldsPhase (s s' : Stored) (changes : List Change) : Type 0 where
   pub low : All (λ tag. tag ≤ s.last) (tags_of s.elements)
   pub holds : HoldsWm s.elements s'
@@ -91,7 +92,7 @@ pub record HoldsPhase (s s' : Stored) (changes : List Change) : Type 0 where
   pub known : All (IsKnown s') changes
   pub added : NamesAdded (held_of s') changes
 
--- a store that let go what it kept, and then did lawful changes, does
+-- this is so for a store that dropped what it had kept and then did lawful changes
 abbrev pub StoreLaw : Type 0
 StoreLaw =
     (s s' : Stored) (changes : List Change) → IsStored s → Lawful s.elements s.last changes → HoldsAlso (record s { kept = [] }) s' (added_by changes)
@@ -99,7 +100,7 @@ StoreLaw =
 
 -- ---- what changed
 
--- the token of the instantiation stands at the terminal of its rule, over these sums
+-- the token of the instantiation is present at the terminal of its rule, over these sums
 pub record Stands (nodes : List Node) (b : Bag) (i : Inst) : Type 0 where
   pub n : ℕ
   pub node : Node
@@ -107,28 +108,28 @@ pub record Stands (nodes : List Node) (b : Bag) (i : Inst) : Type 0 where
   pub kind : node.kind ≡ Terminal i.rule
   pub some : 0 < standing (b n Left i.tags)
 
--- what stands now and did not before, and what stood before and does not now, in the order of rule and tags
+-- what is present now and was not before, and what was present before and is not now, in the order of rule and tags
 pub record IsGathered (nodes : List Node) (before now : Bag) (come gone : List Inst) : Type 0 where
   pub come_is : (i : Inst) → Contains come i ↔ (Stands nodes now i × ¬ Stands nodes before i)
   pub gone_is : (i : Inst) → Contains gone i ↔ (Stands nodes before i × ¬ Stands nodes now i)
   pub come_in_order : IsInOrder come
   pub gone_in_order : IsInOrder gone
 
--- no other line has a token that a task of one line brought or took
+-- no other line has a token that a task of this line inserted or deleted
 abbrev pub HaveOwnLines : List Seen → Type 0
 HaveOwnLines ls =
     (i j : ℕ) (l m : Seen) → slice_get ls i ≡ Some l → slice_get ls j ≡ Some m → j ≢ i
     → (x : Task) → Contains (tasks_of l.entries) x → m.sums x.node x.side x.token ≡ pos 0
 
--- At the end of a phase the lines hold just the tokens over the store that has done the changes, no token that a task
--- moved is on two of them, and what is gathered from them tells how what is found changed.
+-- At the end of a phase, the lines hold exactly the tokens over the store that has done the changes, no token of a
+-- task is on two lines, and what is gathered from them describes how what is found has changed.
 pub record HasSettled (alphas : List Alpha) (nodes : List Node) (s s' : Stored) (lines : ℕ) (ls : List Seen) : Type 0 where
   pub holds : HoldJust (placed (held_of s') nodes lines) (sums_over s'.elements alphas nodes) (map now ls)
   pub own_lines : HaveOwnLines ls
   pub settled : (come gone : List Inst) → IsGathered nodes (total (map before ls)) (total (map now ls)) come gone
       → IsSettled (found_over alphas nodes s.elements) (found_over alphas nodes s'.elements) gone come
 
--- so it is where lines are a bundle of lawful changes, by the store that has done them
+-- this is so if the lines are a bundle of lawful changes, with the store that has done them
 abbrev pub SettledLaw : Type 0
 SettledLaw =
     (alphas : List Alpha) (nodes : List Node) (s s' : Stored) (changes : List Change) (lines : ℕ) (ls : List Seen) → IsSound alphas nodes → 1 ≤ lines

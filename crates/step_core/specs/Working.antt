@@ -1,4 +1,4 @@
--- A task that is done and finished at once.
+-- A task that is performed and finished at once.
 use Rattle.std.specs.Prelude.{◌≡◌, ◌-◌, ◌++◌, ◌∷◌, [], ℕ, List, All, length, slice_get, take, Some}
 use Rattle.work_store.specs.Stored.{Stored}
 use Rattle.net_base.specs.declared.nodes.Node.{Node}
@@ -19,8 +19,8 @@ but_last xs = take (length xs - 1) xs
 abbrev pub IsLast : World → Task → Type 0
 IsLast w x = slice_get w.flight.items (length w.flight.items - 1) ≡ Some x
 
--- The task at that place was done, and its entry, the last one that was done, was finished. Its children came after the
--- tasks that were left in flight. What had been done before is still to be finished.
+-- The task at that place was performed, and its entry, the last one that was done, was finished. Its children came
+-- after the tasks that were left in flight. Entries that were done before are still to be finished.
 pub record IsWorked (alphas : List Alpha) (nodes : List Node) (s : Stored) (old : World) (i : ℕ) (left : List Task) (new : World) : Type 0 where
   pub steps : (elements : Elements) → Agrees s elements
       → Run elements alphas nodes (placed elements nodes (length old.lines.items)) (world_of old) (Activate i ∷ Finish (length old.done.items) ∷ []) (world_of new)

@@ -1,4 +1,4 @@
--- The world as code has it: what of it is the machine's, and what its steps ask for.
+-- The world in the code: which part of it the machine's world describes, and what its steps require.
 use Rattle.std.specs.Prelude.{◌≡◌, ◌<◌, ◌++◌, ℕ, List, [], length, map, slice_get, Some, All}
 use Rattle.work_store.specs.Stored.{Stored, held_of}
 use Rattle.net_base.specs.declared.nodes.Node.{Node}
@@ -23,11 +23,11 @@ use Rattle.step_core.specs.Feeding.{IsKnown}
 
 -- ---- the machine's world
 
--- what is seen of a line
+-- the contracts' view of a line
 abbrev pub seen : Line → Seen
 seen l = record { sums = sum_in l; entries = l.entries.items }
 
--- what is seen of a world
+-- the machine's world for a world of the code
 abbrev pub world_of : World → Machine.World
 world_of w = record { lines = map seen w.lines.items; flight = w.flight.items; done = map entry_of w.done.items; counter = w.counter }
 
@@ -36,15 +36,15 @@ step_of (Feed change) = Machine.Feed change
 step_of (Activate i) = Machine.Activate i
 step_of (Finish j) = Machine.Finish j
 
--- each token on the line whose number its code gives, where there are this many lines
+-- each token on the line that `line_number` gives it, out of this many lines
 abbrev pub placed : Elements → List Node → ℕ → Placing
 placed elements nodes lines n s t = line_number elements nodes lines n s t
 
--- the line of a task, where there are this many lines
+-- the line of a task, out of this many lines
 abbrev pub line_of_task : Stored → List Node → ℕ → Task → ℕ
 line_of_task s nodes lines x = place_of (placed (held_of s) nodes lines) x
 
--- this step leads from the old world to the new one, over every choice of elements that has those of the store
+-- this step leads from the old world to the new one, for every choice of elements that agrees with the store
 abbrev pub Takes : List Alpha → List Node → Stored → World → Machine.Step → World → Type 0
 Takes alphas nodes s old step new =
     (elements : Elements) → Agrees s elements
@@ -52,8 +52,8 @@ Takes alphas nodes s old step new =
 
 -- ---- a task at work
 
--- The task became an entry of its line, as the machine has it, over every choice of elements that has those of the
--- store. The children of the entry fit, and came after the tasks that were there.
+-- The task became an entry of its line, as the machine describes it, for every choice of elements that agrees with
+-- the store. The children of the entry fit, and came after the tasks that were there.
 pub record ActsOn (nodes : List Node) (s : Stored) (x : Task) (old new : List Line) (before now : List Task) : Type 0 where
   pub entry : Entry
   pub task : entry.task ≡ x
@@ -71,7 +71,7 @@ AreNumbered ls = (i : ℕ) (l : Line) → slice_get ls i ≡ Some l → l.number
 abbrev pub numbers_of : World → List ℕ
 numbers_of w = map (λ l. l.number) w.lines.items
 
--- ---- what a step asks for
+-- ---- what a step requires
 
 -- the task of an entry and its children fit
 pub record EntryFits (nodes : List Node) (s : Stored) (e : Entry) : Type 0 where
@@ -84,7 +84,7 @@ pub record IsReady (nodes : List Node) (s : Stored) (w : World) : Type 0 where
   pub done : All (EntryFits nodes s) (map entry_of w.done.items)
   pub lines : All (IsCounted nodes s) w.lines.items
 
--- the machine's world of these lines and tasks, where no entry waits to be finished
+-- the machine's world with these lines and tasks, if no entry is waiting to be finished
 abbrev pub joined : List Seen → List Task → Machine.World
 joined lines flight = record { lines = lines; flight = flight; done = []; counter = length flight }
 

@@ -1,4 +1,4 @@
-//! What was done and is not finished yet.
+//! Tasks that were performed and are not finished yet.
 ghost use Rattle.std.specs.Prelude.{◌≡◌, ◌≤◌, ◌<◌, ◌+◌, ◌∷◌, ◌++◌, [], length, map, remove, set, slice_get, Some, vec_len, vec_capacity};
 ghost use Rattle.net_base.specs.declared.tasks.Task.{Task};
 ghost use Rattle.step_core.specs.inner.Doing.{entry_of};
@@ -8,14 +8,14 @@ use net_base::tasks::{Side, Task};
 use std::alloc::Global;
 use std::mem;
 
-/// A task that was done, and the tasks that it gave.
+/// A task that was performed, and the tasks that it created.
 #[derive(Drop)]
 pub(crate) struct Done {
     pub(crate) task: Task,
     pub(crate) children: Vec<Task>,
 }
 
-/// Takes the task at that place out of the flight, where another one, without tags, stays in its place. Takes no
+/// Takes the task at that place out of the flight and leaves a placeholder without tags in its place. Takes no
 /// memory.
 pub(crate) fn lift(flight: &mut Vec<Task>, alloc: Global, index: usize) -> Task
     requires { index < length flight.old.items }
@@ -31,7 +31,7 @@ pub(crate) fn lift(flight: &mut Vec<Task>, alloc: Global, index: usize) -> Task
     mem::replace(&mut flight[index], blank)
 }
 
-/// Adds tasks at the end of those that have the room.
+/// Appends the tasks to a list that has room for them.
 pub(crate) fn deliver(flight: &mut Vec<Task>, mut tasks: Vec<Task>)
     requires { vec_len flight.old + vec_len tasks ≤ vec_capacity flight.old }
     ensures { flight.new.items ≡ flight.old.items ++ tasks.items }
@@ -39,7 +39,7 @@ pub(crate) fn deliver(flight: &mut Vec<Task>, mut tasks: Vec<Task>)
     let _moved = flight.append(&mut tasks);
 }
 
-/// The task at that place leaves the flight, and is done with these children, after those that were done before.
+/// Moves the task at that place out of the flight, and appends it with these children to the tasks that are done.
 pub(crate) fn move_to_done(
     flight: &mut Vec<Task>,
     index: usize,

@@ -1,4 +1,4 @@
-//! The tasks that a change feeds, made where they will be.
+//! Builds the tasks that a change feeds, directly in the flight.
 ghost use Rattle.std.specs.Prelude.{◌≡◌, ◌++◌, All, IfOk, OnErr, OnOk, Some, [], length, map, slice_get};
 ghost use Rattle.std.specs.List.Sorted.{IsPermutation, IsSorted};
 ghost use Rattle.std.specs.Ordering.{nat_cmp};
@@ -18,7 +18,7 @@ use ops_base::memory::OutOfMemory;
 use std::alloc::Global;
 use work_store::Store;
 
-/// Whether the element is of the alpha of that number.
+/// Whether the element passes the alpha of that number.
 fn passes(alphas: &[Alpha], alpha: usize, element: &Element) -> bool
     ensures { result ≡ passes_in (slice_get alphas.now alpha) (Some element.now) }
 {
@@ -28,8 +28,8 @@ fn passes(alphas: &[Alpha], alpha: usize, element: &Element) -> bool
     }
 }
 
-/// Puts the nodes that take the element into an empty list, each once, in no order. Each alpha that the element can
-/// pass is tested once.
+/// Puts the nodes that take the element into an empty list, each once, in no particular order. Each alpha that the
+/// element can pass is tested once.
 fn find_takers(
     alloc: Global,
     net: &Net,
@@ -56,7 +56,7 @@ fn sort(numbers: &mut Numbers)
     numbers.as_mut_slice().sort_unstable();
 }
 
-/// Adds a task of that element for each of the nodes. Where memory runs out some may have been added.
+/// Adds a task of that element for each of the nodes. If memory runs out, some may have been added.
 fn add_tasks(
     alloc: Global,
     nodes: &[usize],
@@ -80,7 +80,7 @@ fn add_tasks(
     Ok(())
 }
 
-/// The same, but that where memory runs out nothing has changed.
+/// The same, except that nothing has changed if memory runs out.
 fn add_all(
     alloc: Global,
     nodes: &[usize],
@@ -101,7 +101,7 @@ fn add_all(
     }
 }
 
-/// Adds the tasks of that element, one for each node that takes it, in the order of these.
+/// Adds the tasks of that element, one for each node that takes it, in the order of the nodes.
 fn add_for(
     alloc: Global,
     net: &Net,
@@ -119,9 +119,9 @@ fn add_for(
     add_all(alloc, nodes.as_slice(), plus, tag, flight)
 }
 
-/// Adds the tasks that a change feeds at the end of the flight, in the order of their nodes. It looks up the alphas
-/// that the element can pass, tests these, and sorts the nodes that take it. Up to 16 alphas and 16 nodes take no
-/// memory but for the room in flight. Where memory runs out nothing has changed.
+/// Appends the tasks that a change feeds to the flight, in the order of their nodes. It looks up the alphas that the
+/// element can pass, tests these, and sorts the nodes that take it. With up to 16 alphas and 16 nodes it takes no
+/// memory except for the room in flight. If memory runs out, nothing has changed.
 pub(crate) fn add_fed(
     alloc: Global,
     net: &Net,

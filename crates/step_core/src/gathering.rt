@@ -1,4 +1,4 @@
-//! What the lines tell of instantiations that came and went.
+//! Which instantiations came and which went, gathered from the lines.
 ghost use Rattle.std.specs.Prelude.{◌≡◌, ◌<◌, ◌-◌, ◌++◌, ◌∷◌, All, List, ◌+ℤ◌, [], Some, length, IfOk, OnOk, filter, fold, map, slice_get, IsPermutation, FitsSigned};
 ghost use Rattle.std.specs.Int.{w64};
 ghost use Rattle.std.specs.List.Sorted.{IsSortedByKey};
@@ -24,14 +24,15 @@ use std::alloc::Global;
 use std::cmp::Ordering;
 use token_line::Line;
 
-/// What came and what went.
+/// The instantiations that came, and those that went.
 #[derive(Drop)]
 pub struct Gathered {
     pub come: Vec<Inst>,
     pub gone: Vec<Inst>,
 }
 
-/// What an entry at a terminal moved: one of the instantiation came or went. Beside that the sum of its token now.
+/// What an entry at a terminal did: an instantiation's token was inserted or deleted. With it, the sum of that token
+/// now.
 #[derive(Drop)]
 struct Moved {
     inst: Inst,
@@ -39,7 +40,7 @@ struct Moved {
     sum: i64,
 }
 
-/// How all entries together changed the sum of an instantiation's token, and the sum now.
+/// The change that all entries together made to the sum of an instantiation's token, and the sum now.
 #[derive(Drop)]
 struct Total {
     inst: Inst,
@@ -47,7 +48,7 @@ struct Total {
     sum: i64,
 }
 
-/// The rule of the terminal to which the task brings a left token.
+/// The rule of the terminal, if the task brings a left token to one.
 fn rule_of(net: &Net, task: &Task) -> Option<usize>
     ensures { result ≡ rule_in (slice_get net.now.nodes task.now.node) task.now.side }
 {
@@ -72,7 +73,7 @@ fn inst_of(alloc: Global, rule: usize, token: &Tags) -> Result<Inst, OutOfMemory
     })
 }
 
-/// Adds what the task moved, if it is one of a terminal.
+/// Adds what the task did, if it is a task of a terminal.
 fn look_at(
     alloc: Global,
     net: &Net,
@@ -107,7 +108,7 @@ fn look_over(
     Ok(())
 }
 
-/// What the entries of all lines moved.
+/// What the entries of all lines did at terminals.
 fn look_over_all(alloc: Global, net: &Net, lines: &[Line]) -> Result<Vec<Moved>, OutOfMemory>
     requires { All (TellsOfLasts net.now.nodes) lines.now }
     ensures { IfOk result (λ v. v.items ≡ moved_over net.now.nodes (map seen lines.now)) }
@@ -119,7 +120,7 @@ fn look_over_all(alloc: Global, net: &Net, lines: &[Line]) -> Result<Vec<Moved>,
     Ok(moved)
 }
 
-/// What the entries of the lines at these places moved.
+/// What the entries of the lines at these places did at terminals.
 fn look_over_places(
     alloc: Global,
     net: &Net,
@@ -137,7 +138,7 @@ fn look_over_places(
     Ok(moved)
 }
 
-/// By rule and tags.
+/// Sorts by rule and tags.
 fn in_order(mut moved: Vec<Moved>) -> Vec<Moved>
     ensures order { IsSortedByKey (λ m. m.inst) by_rule_and_tags result.items }
     ensures same { IsPermutation moved.items result.items }
@@ -158,21 +159,21 @@ fn change_of(moved: &Moved) -> i64
     if moved.plus { 1 } else { -1 }
 }
 
-/// It did not stand, and stands.
+/// It was not present, and is now.
 fn has_come(total: &Total) -> bool
     ensures { result ≡ has_come total.now }
 {
     total.sum > 0 && total.sum <= total.change
 }
 
-/// It stood, and does not.
+/// It was present, and is no longer.
 fn has_gone(total: &Total) -> bool
     ensures { result ≡ has_gone total.now }
 {
     total.sum <= 0 && total.sum > total.change
 }
 
-/// Tells the instantiation of a total that is all of it: among those that came, among those that went, or nowhere.
+/// Adds the instantiation of a complete total to those that came, to those that went, or to neither.
 fn tell_of(total: Total, told: &mut Gathered) -> Result<(), OutOfMemory>
     ensures come { OnOk result (told.new.come.items ≡ told.old.come.items ++ map (λ t. t.inst) (filter has_come (total ∷ []))) }
     ensures gone { OnOk result (told.new.gone.items ≡ told.old.gone.items ++ map (λ t. t.inst) (filter has_gone (total ∷ []))) }
@@ -185,7 +186,7 @@ fn tell_of(total: Total, told: &mut Gathered) -> Result<(), OutOfMemory>
     Ok(())
 }
 
-/// The total of one that moved alone.
+/// The total of a single insert or delete.
 fn begin(moved: Moved) -> Total
     ensures { result ≡ begun moved }
 {
@@ -194,7 +195,7 @@ fn begin(moved: Moved) -> Total
     Total { inst, change, sum }
 }
 
-/// One of another instantiation is at hand next, and the one before it is reported.
+/// Makes `next` the current total, and reports the instantiation of the previous one.
 fn turn_to(next: Total, hand: &mut Option<Total>, told: &mut Gathered) -> Result<(), OutOfMemory>
     ensures hand { hand.new ≡ Some next }
     ensures come { OnOk result (told.new.come.items ≡ told.old.come.items ++ map (λ t. t.inst) (filter has_come (option_to_list hand.old))) }
@@ -206,8 +207,8 @@ fn turn_to(next: Total, hand: &mut Option<Total>, told: &mut Gathered) -> Result
     Ok(())
 }
 
-/// One more that moved: it counts in the total at hand, where that is of its instantiation. Otherwise that total is
-/// reported, and one of its own is at hand.
+/// Takes in one more insert or delete. If the current total is of the same instantiation, it is counted there.
+/// Otherwise that total is reported, and this one begins a new current total.
 fn count(hand: &mut Option<Total>, next: Moved, told: &mut Gathered) -> Result<(), OutOfMemory>
     requires { (x : Total) → hand.old ≡ Some x → FitsSigned w64 (x.change +ℤ sign next.plus) }
     ensures { OnOk result ((ts : List Total) → AreToldBut ts hand.old told.old.come.items told.old.gone.items → AreToldBut (added ts next) hand.new told.new.come.items told.new.gone.items) }
@@ -221,7 +222,8 @@ fn count(hand: &mut Option<Total>, next: Moved, told: &mut Gathered) -> Result<(
     turn_to(begin(next), hand, told)
 }
 
-/// What came and what went, by what moved: that is sorted, and added up in one pass for each instantiation.
+/// What came and what went, from the inserts and deletes: they are sorted, and added up per instantiation in one
+/// pass.
 fn tell(alloc: Global, moved: Vec<Moved>) -> Result<Gathered, OutOfMemory>
     ensures { IfOk result (λ g. AreTold moved.items g.come.items g.gone.items) }
 {
@@ -239,9 +241,9 @@ fn tell(alloc: Global, moved: Vec<Moved>) -> Result<Gathered, OutOfMemory>
     Ok(told)
 }
 
-/// What came and what went in the phase of the lines: the instantiations that did not stand when it began and stand
-/// now, and those that stood and no longer do. It looks at each line once, and at the tasks that came to terminals,
-/// which it sorts. It takes no memory where there is none.
+/// What came and what went in the phase of the lines: the instantiations that were not present when it began and are
+/// now, and those that were present and no longer are. It looks at each line once, and at the tasks for terminals,
+/// which it sorts. It takes no memory if there are none.
 pub fn gather(alloc: Global, net: &Net, lines: &[Line]) -> Result<Gathered, OutOfMemory>
     requires own { HaveOwnLines (map seen lines.now) }
     requires told { All (TellsOfLasts net.now.nodes) lines.now }
@@ -252,7 +254,7 @@ pub fn gather(alloc: Global, net: &Net, lines: &[Line]) -> Result<Gathered, OutO
     Ok(gathered)
 }
 
-/// The same, where it is known which lines have entries: it looks at these alone.
+/// The same if it is known which lines have entries: it looks only at these.
 pub fn gather_worked(
     alloc: Global,
     net: &Net,

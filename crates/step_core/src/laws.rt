@@ -3,7 +3,7 @@ ghost use Rattle.step_core.specs.Laws.{StartLaw, CounterLaw, BalanceLaw, ZeroLaw
 ghost use Rattle.step_core.specs.Rounds.{BeginLaw, EndLaw, NoneLaw, OneLaw, RoundLaw, ShardLaw, StepsLaw};
 ghost use Rattle.step_core.specs.Settling.{ChildLaw, EntryStartLaw, FoundLaw, FoundNoneLaw, FoundSetLaw, PlacedLaw, RestLaw, SettledLaw, StoreLaw};
 
-/// What every list of steps keeps, and what the lines hold where nothing is under way.
+/// What every list of steps preserves, and what the lines hold when nothing is pending.
 pub fn match_laws()
     ensures start { StartLaw }
     ensures counter { CounterLaw }
@@ -19,7 +19,7 @@ pub fn match_laws()
     ensures bundle { BundleLaw }
 {}
 
-/// What an engine finds, what stays where one store takes the place of another, and what a phase leaves.
+/// What an engine finds, what stays true when one store takes the place of another, and what a phase leaves.
 pub fn settle_laws()
     ensures found { FoundLaw }
     ensures set { FoundSetLaw }
@@ -32,7 +32,8 @@ pub fn settle_laws()
     ensures settled { SettledLaw }
 {}
 
-/// What carries a phase on to its bundle: steps, and rounds, whose shards are each some lines that follow one another.
+/// What carries a phase on until its lines are a bundle: steps and rounds, with shards that are each a run of
+/// consecutive lines.
 pub fn round_laws()
     ensures begin { BeginLaw }
     ensures steps { StepsLaw }

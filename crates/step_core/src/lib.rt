@@ -1,5 +1,5 @@
-//! The world of a parallel match and its steps, and the laws of these: what every list of steps keeps, and what the
-//! lines hold where nothing is under way.
+//! The world of a parallel match, its steps, and their laws: what every list of steps preserves, and what the lines
+//! hold when nothing is pending.
 #![tactic(auto)]
 
 mod done;

@@ -13,7 +13,7 @@ use ops_base::memory::OutOfMemory;
 use std::alloc::Global;
 use token_line::{GhostTasks, Line};
 
-/// This many lines with no tokens.
+/// This many lines without tokens.
 fn bare_lines(alloc: Global, count: usize) -> Result<Vec<Line>, OutOfMemory>
     ensures { IfOk result (λ v. AreUnused count v.items) }
 {
@@ -24,8 +24,8 @@ fn bare_lines(alloc: Global, count: usize) -> Result<Vec<Line>, OutOfMemory>
     Ok(lines)
 }
 
-/// The left side of the node, which has no tests, gets the empty token: the node's number is its code. No entry is left
-/// of it.
+/// Gives the empty token to the left side of the node, which has no tests: the node's number is the token's code.
+/// This leaves no entry.
 fn give_root(alloc: Global, line: &mut Line, node: usize) -> Result<(), OutOfMemory>
     requires { IsAlone line.old node node Left [] }
     ensures sums { OnOk result ((n : ℕ) (s : Side) (t : List ℕ) → sum_in line.new n s t ≡ after (sum_in line.old) (root_task node) n s t) }
@@ -46,7 +46,7 @@ fn give_root(alloc: Global, line: &mut Line, node: usize) -> Result<(), OutOfMem
 }
 
 /// This many lines, on which the left side of each child of the root has the empty token. Such a node has no join
-/// tests, so its number alone tells the line. It looks at each node.
+/// tests, so its number alone determines the line. It looks at each node.
 pub(crate) fn first_lines(alloc: Global, net: &Net, count: usize) -> Result<Vec<Line>, OutOfMemory>
     requires { 1 ≤ count }
     ensures { IfOk result (λ v. AreBegun net.now.nodes count (length net.now.nodes) v.items) }

@@ -1,5 +1,5 @@
-//! The lines at work: a task is done on its line, those that have entries are known by name, and they alone are
-//! cleared.
+//! The lines at work: performs a task on its line, and keeps a list of the lines that have entries, so that only
+//! these are cleared.
 ghost use Rattle.std.specs.Prelude.{◌≡◌, ◌≢◌, ◌≤◌, ◌<◌, ◌∷◌, ◌++◌, [], All, IfOk, List, OnErr, OnOk, length, map, vec_capacity, vec_len};
 ghost use Rattle.work_store.specs.Stored.{Stored};
 ghost use Rattle.net_base.specs.declared.nodes.Node.{Node};
@@ -17,7 +17,7 @@ use std::alloc::Global;
 use token_line::{Line, place_of};
 use work_store::Store;
 
-/// Names the line, which has this place, after those that are named, if its only entry is the first one.
+/// Appends the line's place to the list of worked lines, if its only entry is its first.
 fn name_worked(worked: &mut Vec<usize>, place: usize, line: &Line)
     requires { vec_len worked.old < vec_capacity worked.old }
     ensures first { length line.now.entries.items ≡ 1 → worked.new.items ≡ worked.old.items ++ place ∷ [] }
@@ -28,8 +28,8 @@ fn name_worked(worked: &mut Vec<usize>, place: usize, line: &Line)
     }
 }
 
-/// Does the task on its line, whose children come at the end of `out`. `enter` gets the number of the line just before.
-/// Where memory runs out nothing has changed.
+/// Performs the task on its line, and appends its children to `out`. `enter` gets the number of the line just before.
+/// If memory runs out, nothing has changed.
 #[inline(always)]
 pub(crate) fn act_on<F: Fn(usize)>(
     lines: &mut Vec<Line>,
@@ -77,7 +77,7 @@ pub(crate) fn worked_lines(alloc: Global, lines: &[Line]) -> Result<Vec<usize>, 
     Ok(worked)
 }
 
-/// Begins a phase on the lines that have entries, which then have none.
+/// Begins a phase on the lines that have entries; they then have none.
 pub(crate) fn clear_worked(lines: &mut Vec<Line>, worked: &mut Vec<usize>)
     requires { AreWorked lines.old.items worked.old.items }
     ensures cleared { map seen lines.new.items ≡ map cleared (map seen lines.old.items) }

@@ -25,9 +25,9 @@ pub enum Step {
     Finish(usize),
 }
 
-/// The lines, the tasks in flight, the entries of the tasks that were activated and are not finished, and how many
-/// tasks and entries these are together. The last task in flight is the one to be done next. It knows which lines have
-/// entries.
+/// The lines, the tasks in flight, the entries of the tasks that were activated and are not finished, and the total
+/// number of these tasks and entries. The last task in flight is the next one to be performed. The world keeps a list
+/// of the lines that have entries.
 #[derive(Drop)]
 pub struct World {
     lines: Vec<Line>,
@@ -40,7 +40,7 @@ pub struct World {
     ghost told: { AreWorked lines.items worked.items },
 }
 
-/// The lines of a world and its tasks in flight, which are all of it where no entry waits to be finished.
+/// The lines of a world and its tasks in flight, which are all of it if no entry is waiting to be finished.
 #[derive(Drop)]
 pub struct Parts {
     pub lines: Vec<Line>,
@@ -60,7 +60,7 @@ impl World {
     ghost use Rattle.step_core.specs.Working.{IsLast, IsWorked, but_last};
     ghost use Rattle.step_core.specs.Worlds.{AreNumbered, ArePartsReady, IsReady, IsWithin, Takes, joined, line_of_task, numbers_of, placed, seen, step_of, world_of};
 
-    /// This many lines, with nothing under way. It makes each line and looks at each node.
+    /// This many lines, with nothing pending. It makes each line and looks at each node.
     pub fn start(alloc: Global, net: &Net, lines: usize) -> Result<World, OutOfMemory>
         requires { 1 ≤ lines }
         ensures start { IfOk result (λ w. (elements : Elements) → world_of w ≡ start net.now.nodes (placed elements net.now.nodes lines) lines) }
@@ -80,7 +80,8 @@ impl World {
         })
     }
 
-    /// Gives out the lines and the tasks in flight, for one who does such tasks by other means. Takes no memory.
+    /// Returns the lines and the tasks in flight, for a caller that performs the tasks by other means. Takes no
+    /// memory.
     pub fn into_parts(self) -> Parts
         requires { length self.done.items ≡ 0 }
         ensures lines { result.lines ≡ self.lines }
@@ -95,8 +96,8 @@ impl World {
         }
     }
 
-    /// The world of these lines and tasks in flight. It looks at each line, and takes memory for the places of those
-    /// that have entries.
+    /// The world with these lines and tasks in flight. It looks at each line, and takes memory for the places of
+    /// those that have entries.
     pub fn from_parts(alloc: Global, parts: Parts) -> Result<World, OutOfMemory>
         requires { 1 ≤ length parts.lines.items }
         ensures lines { IfOk result (λ w. w.lines ≡ parts.lines) }
@@ -130,7 +131,7 @@ impl World {
         self.worked.as_slice()
     }
 
-    /// The tasks in flight; the last is the one to be done next. Takes no memory.
+    /// The tasks in flight; the last one is performed next. Takes no memory.
     pub fn flight(&self) -> &[Task]
         ensures { result.now ≡ self.now.flight.items }
     {
@@ -144,14 +145,14 @@ impl World {
         self.flight.len()
     }
 
-    /// How many entries are done and not finished. Takes no memory.
+    /// How many entries are done but not finished. Takes no memory.
     pub fn done(&self) -> usize
         ensures { result ≡ length self.now.done.items }
     {
         self.done.len()
     }
 
-    /// How many tasks and entries are under way. Takes no memory.
+    /// How many tasks and entries are pending. Takes no memory.
     pub fn counter(&self) -> u64
         ensures counter { result ≡ self.now.counter }
         ensures sum { self.now.counter ≡ length self.now.flight.items + length self.now.done.items }
@@ -159,7 +160,7 @@ impl World {
         self.counter
     }
 
-    /// The number of the line on which the task at that place is done, at the cost of `token_line::line_of`.
+    /// The number of the line on which the task at that place is performed, at the cost of `token_line::line_of`.
     pub fn line_at(&self, net: &Net, store: &Store, index: usize) -> usize
         requires ready { IsReady net.now.nodes store.now self.now }
         requires within { index < length self.now.flight.items }
@@ -169,9 +170,9 @@ impl World {
         line_of(net, store, &self.flight[index], self.lines.len())
     }
 
-    /// Puts into flight one task for each node that takes the change's element. It looks up the alphas that the element
-    /// can pass, tests these, and sorts the nodes that take it; the tasks are made where they will be. Where memory
-    /// runs out nothing has changed.
+    /// Puts into flight one task for each node that takes the change's element. It looks up the alphas that the
+    /// element can pass, tests these, and sorts the nodes that take it. The tasks are built in place. If memory runs
+    /// out, nothing has changed.
     pub fn feed(
         &mut self,
         alloc: Global,
@@ -193,8 +194,8 @@ impl World {
         Ok(())
     }
 
-    /// Does the task at that place on its line, at the cost of `activation::activate`. It also moves the tasks in
-    /// flight after that place, so the last one costs no more. Where memory runs out nothing has changed.
+    /// Performs the task at that place on its line, at the cost of `activation::activate`. It also moves the tasks in
+    /// flight after that place, so for the last one there is no extra cost. If memory runs out, nothing has changed.
     pub fn activate(
         &mut self,
         alloc: Global,
@@ -227,8 +228,8 @@ impl World {
         Ok(())
     }
 
-    /// Puts the children of the entry at that place into flight, and lets the entry go. It moves these and the entries
-    /// after that place. Where memory runs out nothing has changed.
+    /// Puts the children of the entry at that place into flight, and drops the entry. It moves these and the entries
+    /// after that place. If memory runs out, nothing has changed.
     pub fn finish(&mut self, index: usize) -> Result<(), OutOfMemory>
         requires { index < length self.old.done.items }
         ensures steps { OnOk result (Finishes (world_of self.old) index (world_of self.new)) }
@@ -245,9 +246,9 @@ impl World {
         Ok(())
     }
 
-    /// Does the task at that place and finishes it, at the cost of `activation::activate`: its children are made where
-    /// they will be, at the end of the flight. `enter` gets the number of the task's line just before. It also moves
-    /// the tasks in flight after that place; the task is not copied. Where memory runs out nothing has changed.
+    /// Performs the task at that place and finishes it, at the cost of `activation::activate`: its children are built
+    /// in place, at the end of the flight. `enter` gets the number of the task's line just before. It also moves the
+    /// tasks in flight after that place; the task is not copied. If memory runs out, nothing has changed.
     pub fn work_at<F: Fn(usize)>(
         &mut self,
         alloc: Global,
@@ -285,9 +286,9 @@ impl World {
         Ok(())
     }
 
-    /// Does the last task in flight and finishes it: its children take its place at the end of the flight. `enter` gets
-    /// the number of the task's line just before. It costs what `activation::activate` costs. Where memory runs out
-    /// nothing has changed.
+    /// Performs the last task in flight and finishes it: its children take its place at the end of the flight.
+    /// `enter` gets the number of the task's line just before. It costs what `activation::activate` costs. If memory
+    /// runs out, nothing has changed.
     pub fn work<F: Fn(usize)>(
         &mut self,
         alloc: Global,
@@ -326,7 +327,7 @@ impl World {
         Ok(())
     }
 
-    /// Takes one step, at the cost of its kind.
+    /// Takes one step, at the cost of that kind of step.
     pub fn step(
         &mut self,
         alloc: Global,
@@ -349,8 +350,8 @@ impl World {
         }
     }
 
-    /// Begins a phase on each line, and lets their entries go. It looks at the lines that have entries alone, and takes
-    /// no memory.
+    /// Begins a phase on each line, and drops the entries. It looks only at the lines that have entries, and takes no
+    /// memory.
     pub fn clear_phase(&mut self)
         requires counter { self.old.counter ≡ 0 }
         ensures steps { (elements : Elements) (alphas : List Alpha) (nodes : List Node) (line : Placing) → Steps elements alphas nodes line (world_of self.old) Clear (world_of self.new) }

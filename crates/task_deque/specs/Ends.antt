@@ -14,7 +14,7 @@ module _ {J : Type 0} where
   abbrev pub popped : OwnEnd J → List Task
   popped e = (worker_view e.worker).popped
 
-  -- what was stolen, where the thief's end is back
+  -- what was stolen, if the thief's end is back
   abbrev pub stolen : OwnEnd J → List Task
   stolen e = (worker_view e.worker).stolen
 
@@ -28,13 +28,13 @@ module _ {J : Type 0} where
   abbrev pub IsLent : OwnEnd J → Type 0
   IsLent e = (worker_view e.worker).steals ≡ false
 
-  -- which deque it is
+  -- the identity of the deque
   abbrev pub of : OwnEnd J → RowsId × Global
   of e = worker_deque e.worker
 
   abbrev pub thief_of : ThiefEnd J → RowsId × Global
   thief_of e = stealer_deque e.stealer
 
-  -- which deque it is, and whether its thief is back
+  -- the identity of the deque, and whether its thief's end is back
   abbrev pub own_of : OwnEnd J → (RowsId × Global) × Bool
   own_of e = (worker_deque e.worker, (worker_view e.worker).steals)

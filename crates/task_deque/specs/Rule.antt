@@ -5,20 +5,20 @@ use lib.ListN.{get_elem?}
 use Rattle.net_base.specs.declared.tasks.Task.{Task}
 use Rattle.task_deque.specs.declared.plays.Known.{Known}
 
--- the same items, each as often, in any order
+-- the same items, each the same number of times, in any order
 abbrev pub AreSame : {T : Type 0} → List T → List T → Type 0
 AreSame {T = T} xs ys = (h : T → ℕ) → sum_by h xs ≡ sum_by h ys
 
 abbrev pub known : Bool → Bool → List Task → List Task → List Task → Known
 known a b pushed popped stolen = record { owns = a; steals = b; pushed = pushed; popped = popped; stolen = stolen }
 
--- Of what was pushed, popped and stolen in all, the owner knows the first two, and the thief knows the third. One pass
--- at most is the owner's, and one is the thief's.
+-- Of all that was pushed, popped and stolen, the owner knows the first two, and the thief knows the third. At most
+-- one pass is the owner's, and at most one is the thief's.
 pub record Knows (owner thief : ℕ) (pushed popped stolen : List Task) (port : ℕ) (v : Known) : Type 0 where
   pub owns : v.owns ≡ true → (port ≡ owner) × (v.pushed ≡ pushed) × (v.popped ≡ popped)
   pub steals : v.steals ≡ true → (port ≡ thief) × (v.stolen ≡ stolen)
 
--- what was pushed is what was taken together with what the deque holds, and each task there fits
+-- what was pushed is what was taken together with what is in the deque, and each task there fits
 pub record IsFair (fits : Task → Type 0) (items : List Task) (views : List Known) : Type 0 where
   pub owner : ℕ
   pub thief : ℕ
@@ -54,6 +54,6 @@ Popped fits v xs w = (w ≡ known v.owns v.steals v.pushed (v.popped ++ xs) v.st
 abbrev pub Stolen : (Task → Type 0) → Known → List Task → Known → Type 0
 Stolen fits v xs w = (w ≡ known v.owns v.steals v.pushed v.popped (v.stolen ++ xs)) × All fits xs
 
--- an owner whose thief is back knows that all was taken
+-- an owner whose thief's end is back knows that all was taken
 abbrev pub Sum : Known → Type 0
 Sum v = v.steals ≡ true → AreSame v.pushed (v.popped ++ v.stolen)

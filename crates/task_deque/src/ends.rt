@@ -1,4 +1,4 @@
-//! What the two ends of a deque do.
+//! The operations of the two ends of a deque.
 ghost use Rattle.std.specs.Prelude.{◌≡◌, ◌++◌, [], ◌∷◌, IfOk, MatchResult, MatchOption, IfNone, IfSome, OnErr};
 ghost use Rattle.task_deque.specs.Rule.{AreSame};
 ghost use Rattle.task_deque.specs.Ends.{IsWhole, IsLent, of, own_of, pushed, popped, stolen, thief_of, thief_stolen};
@@ -11,8 +11,8 @@ use ops_base::memory::OutOfMemory;
 use std::alloc::Global;
 
 impl<J: Fitting> OwnEnd<J> {
-    /// A deque without a task, with room for this many at first. No thief has its end. It takes memory for the room and
-    /// a small piece more.
+    /// A deque without tasks, with room for this many at first. No thief has an end of it. It takes memory for the
+    /// room, plus a small allocation.
     pub fn new(alloc: Global, room: usize) -> Result<OwnEnd<J>, OutOfMemory>
         ensures whole { IfOk result (λ e. IsWhole e) }
         ensures none { IfOk result (λ e. (pushed e ≡ []) × (popped e ≡ []) × (stolen e ≡ [])) }
@@ -23,7 +23,7 @@ impl<J: Fitting> OwnEnd<J> {
         }
     }
 
-    /// Takes the end of the thief back. It waits for nothing, and takes no memory.
+    /// Takes the thief's end back. It waits for nothing, and takes no memory.
     pub fn take_back(&mut self, thief: ThiefEnd<J>)
         requires deque { thief_of thief ≡ of self.old }
         ensures whole { IsWhole self.new }
@@ -36,7 +36,7 @@ impl<J: Fitting> OwnEnd<J> {
         self.worker.absorb::<Part>(pass);
     }
 
-    /// The end of the thief. It takes a small piece of memory. Where memory runs out the owner goes on alone.
+    /// Hands out the thief's end. It makes a small allocation. If memory runs out, the owner goes on alone.
     pub fn lend(&mut self) -> Result<ThiefEnd<J>, OutOfMemory>
         requires whole { IsWhole self.old }
         ensures pushed { pushed self.new ≡ pushed self.old }
@@ -53,7 +53,7 @@ impl<J: Fitting> OwnEnd<J> {
         Ok(ThiefEnd { stealer, pass })
     }
 
-    /// How many tasks there were at one moment of the call. It looks at two numbers.
+    /// How many tasks there were at one moment during the call. It reads two numbers.
     pub fn len(&mut self) -> usize
         ensures pushed { pushed self.new ≡ pushed self.old }
         ensures popped { popped self.new ≡ popped self.old }
@@ -63,8 +63,8 @@ impl<J: Fitting> OwnEnd<J> {
         self.worker.len_as::<Look>()
     }
 
-    /// Puts the task after all others. It takes memory where the room is full: then it moves each task. Where there is
-    /// no memory it gives the task back, and nothing has changed.
+    /// Appends the task. It takes memory if the room is full: then it moves each task. If there is not enough memory
+    /// it returns the task, and nothing has changed.
     pub fn push(&mut self, task: Task) -> Result<(), Task>
         requires { J.fits task }
         ensures pushed { MatchResult result (λ _. pushed self.new ≡ pushed self.old ++ task ∷ []) (λ x. (x ≡ task) × (pushed self.new ≡ pushed self.old)) }
@@ -78,8 +78,8 @@ impl<J: Fitting> OwnEnd<J> {
         }
     }
 
-    /// Takes the first task, one that nobody took before. Where there is none and no thief has its end, what was pushed
-    /// is what was taken, each task as often. It takes no memory.
+    /// Takes the first task; no other call has taken it. If there is none and no thief has an end, then the tasks
+    /// pushed are exactly those taken, each the same number of times. It takes no memory.
     pub fn pop(&mut self) -> Option<Task>
         ensures popped { MatchOption result (popped self.new ≡ popped self.old) (λ x. popped self.new ≡ popped self.old ++ x ∷ []) }
         ensures pushed { pushed self.new ≡ pushed self.old }
@@ -96,8 +96,8 @@ impl<J: Fitting> OwnEnd<J> {
 }
 
 impl<J: Fitting> ThiefEnd<J> {
-    /// Takes the first task, one that nobody took before. None also where the owner came first. It takes no memory but
-    /// what the deque keeps for itself.
+    /// Takes the first task; no other call has taken it. Also returns none if the owner was faster. It takes no
+    /// memory except what the deque keeps for itself.
     pub fn steal(&mut self) -> Option<Task>
         ensures stolen { MatchOption result (thief_stolen self.new ≡ thief_stolen self.old) (λ x. thief_stolen self.new ≡ thief_stolen self.old ++ x ∷ []) }
         ensures fits { IfSome result J.fits }

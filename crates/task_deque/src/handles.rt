@@ -1,4 +1,4 @@
-//! The two ends of a deque, as they stand.
+//! The types of the two ends of a deque.
 ghost use Rattle.std.specs.Prelude.{◌≡◌, true, false};
 ghost use Rattle.crossbeam_deque.specs.Handles.{IsPassOf, stealer_deque, worker_flavor, worker_view, view};
 
@@ -7,7 +7,7 @@ use crossbeam_deque::{Pass, Stealer, Worker};
 use net_base::tasks::Task;
 use std::alloc::Global;
 
-/// The end of the owner, who pushes and pops. A task that is pushed comes after all others, and the first is taken.
+/// The end of the owner, who pushes and pops. Tasks are pushed at the back and taken from the front.
 #[derive(Drop)]
 pub struct OwnEnd<J: Fitting> {
     pub(crate) worker: Worker<Task, Global, Known, Fair<J>>,
@@ -15,7 +15,7 @@ pub struct OwnEnd<J: Fitting> {
     ghost fifo: { worker_flavor worker ≡ 0 },
 }
 
-/// The end of the thief, who takes the first task too.
+/// The end of the thief, who also takes tasks from the front.
 #[derive(Drop)]
 pub struct ThiefEnd<J: Fitting> {
     pub(crate) stealer: Stealer<Task, Global, Known, Fair<J>>,

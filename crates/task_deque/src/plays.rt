@@ -1,4 +1,4 @@
-//! What an end of a deque knows, and what each step tells it. Contracts and proofs alone need these types.
+//! What an end of a deque knows, and what it learns from each step. Only contracts and proofs need these types.
 ghost use Rattle.std.specs.Prelude.{⊤};
 ghost use Rattle.net_base.specs.declared.tasks.Task.{Task};
 ghost use Rattle.task_deque.specs.Rule.{IsFair, known, owner_part, thief_part, both_parts, no_part, Pushed, Popped, Stolen, Sum};
@@ -8,7 +8,7 @@ use net_base::tasks::Task;
 use std::collections::LinkedList;
 use std::marker::{Brand, PhantomData};
 
-/// What holds of each task in a deque. A caller picks it by `Brand`.
+/// A property of every task in a deque. A caller picks it by `Brand`.
 pub trait Fitting {
     ghost fits: { Task → Type 0 };
 }
@@ -17,18 +17,19 @@ impl Fitting for Brand {
     ghost fits = { λ _. ⊤ };
 }
 
-/// What an end of a deque knows. No value of it is made.
+/// What an end of a deque knows. No value of this type is ever made.
 pub struct Known {
-    /// It pushes and pops.
+    /// This end pushes and pops.
     pub owns: bool,
-    /// It steals.
+    /// This end steals.
     pub steals: bool,
     pub pushed: LinkedList<Task>,
     pub popped: LinkedList<Task>,
     pub stolen: LinkedList<Task>,
 }
 
-/// The rule of a deque: what was pushed is, each as often, what was popped and stolen with what the deque holds.
+/// The rule of a deque: the tasks pushed are, each the same number of times, those popped and stolen together with
+/// those in the deque.
 pub struct Fair<J> {
     marker: PhantomData<J>,
 }
@@ -83,7 +84,7 @@ impl<J: Fitting> Outcome<Task, Known> for Take<J> {
     ghost then = { Stolen J.fits };
 }
 
-/// Nothing is learned of the tasks in a deque when their number is looked up.
+/// Looking up the number of tasks reveals nothing about the tasks in a deque.
 pub(crate) struct Look;
 
 impl Lesson<Task, Known> for Look {

@@ -1,4 +1,4 @@
-//! An owner and a thief, first one after the other, then in two threads.
+//! An owner and a thief, first one after the other, and then on two threads.
 ghost use Rattle.std.specs.Prelude.{◌≡◌, IfOk};
 ghost use Rattle.task_deque.specs.Ends.{IsWhole, own_of, thief_of};
 
@@ -22,7 +22,7 @@ fn task_at(alloc: Global, node: usize) -> Result<Task, OutOfMemory> {
     })
 }
 
-// a deque of tasks at this many nodes, from 0 on
+// a deque of tasks at this many nodes, starting with node 0
 fn deque_of(alloc: Global, count: usize) -> Result<OwnEnd<Brand>, OutOfMemory>
     ensures { IfOk result (λ e. IsWhole e) }
 {
@@ -58,8 +58,8 @@ fn the_first_task_is_taken_at_both_ends(rt: HostRuntime) -> Result<(), Fail> {
     Ok(())
 }
 
-// The owner pushes tasks at this many nodes and pops some. It answers its end, the sum of the nodes of those that it
-// popped, and whether there was memory.
+// The owner pushes tasks at this many nodes and pops some. Returns its end, the sum of the nodes of the popped tasks,
+// and whether there was enough memory.
 fn push_and_pop(owner: OwnEnd<Brand>, alloc: Global, count: usize) -> (OwnEnd<Brand>, usize, bool)
     ensures { own_of result.0 ≡ own_of owner }
 {
@@ -81,7 +81,7 @@ fn push_and_pop(owner: OwnEnd<Brand>, alloc: Global, count: usize) -> (OwnEnd<Br
     (owner, sum, true)
 }
 
-// The thief looks this often. It answers its end, and the sum of the nodes of what it stole.
+// The thief looks this many times. Returns its end, and the sum of the nodes of the tasks that it stole.
 fn steal_some(thief: ThiefEnd<Brand>, looks: usize) -> (ThiefEnd<Brand>, usize)
     ensures { thief_of result.0 ≡ thief_of thief }
 {
@@ -95,7 +95,7 @@ fn steal_some(thief: ThiefEnd<Brand>, looks: usize) -> (ThiefEnd<Brand>, usize)
     (thief, sum)
 }
 
-// The sum of the nodes of all that came out of a deque of these tasks, by two threads and then alone.
+// The sum of the nodes of all tasks taken from a deque of these tasks, by two threads and then by one.
 fn sum_of_all<R: Threads + Sync>(
     rt: &R,
     alloc: Global,

@@ -1,4 +1,4 @@
--- That a pool has played its entries is a fact.
+-- The statement that a pool has played its entries, as a fact.
 use Rattle.std.specs.Prelude.{ℕ, List, [], ◌∷◌, Option}
 use Rattle.std.proofs.Props.{props}
 use Rattle.net_base.specs.declared.tasks.Task.{Task}

@@ -1,3 +1,3 @@
--- What a pool's entries say.
+-- The meaning of a pool's entries.
 pub mod Pools
 pub mod Facts

@@ -1,4 +1,4 @@
-//! The queue of tasks of a phase, with an entry for all that was taken from it and given to it.
+//! The queue of tasks of a phase, with an entry for everything that was taken from it and given to it.
 #![tactic(auto)]
 
 pub mod laws;

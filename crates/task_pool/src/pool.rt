@@ -1,4 +1,4 @@
-//! The pool: tasks that wait, in their order, and an entry for each that was taken, finished or left.
+//! The pool: the tasks that are waiting, in order, and an entry for each task that was taken, finished or abandoned.
 ghost use Rattle.std.specs.Prelude.{◌≡◌, ◌+◌, ◌<◌, ◌≤◌, ◌++◌, [], ◌∷◌, false, true, None, length, IfOk, OnErr, OnOk, vec_len, vec_capacity};
 ghost use Rattle.std.specs.VecDeque.{deque_capacity, deque_len};
 ghost use Rattle.task_pool.specs.declared.pool.PoolEntry.TheVariants.{Finish as FinishEntry, Stop as StopEntry};
@@ -13,20 +13,20 @@ use std::mem::replace;
 use std::snapshot::Snapshot;
 use token_line::{GhostTask, GhostTasks};
 
-/// What a take answers: the first task that waits, or why there is none.
+/// The result of a take: the first task that is waiting, or why there is none.
 #[derive(Drop)]
 pub enum Taken {
-    /// The first task that waits.
+    /// The first task that was waiting.
     Task(Task),
-    /// No task waits, and this many are taken and not finished.
+    /// No task is waiting, and this many are taken and not finished.
     Again { unfinished: usize },
-    /// No task waits, and none is unfinished.
+    /// No task is waiting, and none is unfinished.
     Quiet,
     /// The worker that stopped first.
     Stopped { by: usize },
 }
 
-/// What a worker did in the pool. The tasks in it are for contracts alone.
+/// What a worker did in the pool. Only contracts can see the tasks in it.
 #[derive(Drop)]
 pub enum PoolEntry {
     Take { worker: usize, task: GhostTask },
@@ -34,7 +34,7 @@ pub enum PoolEntry {
     Stop { worker: usize },
 }
 
-/// The tasks that wait, and the entries since the pool began.
+/// The tasks that are waiting, and the entries since the pool began.
 #[derive(Drop)]
 pub struct Pool {
     first: Snapshot<Vec<Task>>,
@@ -44,11 +44,12 @@ pub struct Pool {
     unfinished: usize,
     stopped: Option<usize>,
     ghost played: { HasPlayed first.value.items queue.items entries.items unfinished stopped } by { played_prop first.value.items queue.items entries.items unfinished stopped },
-    // A task that waits has room for its take and for a stop, and one that is taken for a stop.
+    // For each waiting task there is room for the entry of its take and of a stop; for each taken one, for that of a
+    // stop.
     ghost room: { vec_len entries + deque_len queue + deque_len queue + unfinished ≤ vec_capacity entries },
 }
 
-/// Moves the tasks to the end of those that wait, where there is room.
+/// Appends the tasks to those that are waiting, which have room for them.
 fn deliver(queue: &mut VecDeque<Task>, tasks: Vec<Task>)
     requires { deque_len queue.old + vec_len tasks ≤ deque_capacity queue.old }
     ensures items { queue.new.items ≡ queue.old.items ++ tasks.items }
@@ -59,8 +60,8 @@ fn deliver(queue: &mut VecDeque<Task>, tasks: Vec<Task>)
 }
 
 impl Pool {
-    /// These tasks wait, and this many workers may take them. It reserves room for the entries of each task's take and
-    /// of as many stops, and copies nothing.
+    /// A pool in which these tasks are waiting and this many workers may take them. It reserves room for the entries
+    /// of each task's take and of as many stops, and copies nothing.
     pub fn new(alloc: Global, tasks: Vec<Task>, workers: usize) -> Result<Pool, OutOfMemory>
         ensures first { IfOk result (λ p. p.first.value.items ≡ tasks.items) }
         ensures workers { IfOk result (λ p. p.workers.value ≡ workers) }
@@ -78,18 +79,19 @@ impl Pool {
         })
     }
 
-    /// What was done since `new`, in this order. Takes no memory.
+    /// What was done since `new`, in order. Takes no memory.
     pub fn entries(&self) -> &[PoolEntry]
         ensures entries { result.now ≡ self.now.entries.items }
-        // A worker that holds no task took the first one that waited, and one that held a task finished or left it.
+        // A worker that held no task took the first one that was waiting, and one that held a task finished or
+        // abandoned it.
         ensures run { IsRun (begun self.now.first.value.items) result.now }
     {
         let _played = self.unfinished;
         self.entries.as_slice()
     }
 
-    /// Takes the first task that waits, or tells why there is none. Only a task changes the pool. It takes no memory,
-    /// and the same time however many tasks there are.
+    /// Takes the first task that is waiting, or returns why there is none. The pool changes only if a task is taken.
+    /// It takes no memory, and constant time however many tasks there are.
     pub fn take(&mut self, worker: usize) -> Taken
         requires worker { worker < self.old.workers.value }
         requires free { holds worker self.old.entries.items ≡ false }
@@ -122,8 +124,8 @@ impl Pool {
         }
     }
 
-    /// The worker has finished the task that it holds: its children wait after all others, and `children` is empty. It
-    /// moves each child once, and copies none. Where memory runs out nothing has changed.
+    /// Finishes the task that the worker holds: its children wait behind all others, and `children` is left empty. It
+    /// moves each child once, and copies none. If memory runs out, nothing has changed.
     pub fn finish(
         &mut self,
         alloc: Global,
@@ -143,7 +145,7 @@ impl Pool {
         let added = children.len();
         self.queue.reserve(added)?;
         let waiting = self.queue.len() + added;
-        // The first room is little: where there is that much, the sum of the whole fits its type.
+        // The first reservation is the smaller one: if it succeeds, the whole sum fits its type.
         self.entries.reserve(waiting + self.unfinished)?;
         self.entries.reserve(waiting + self.unfinished + waiting)?;
         self.entries.push_reserved(PoolEntry::Finish {
@@ -155,7 +157,7 @@ impl Pool {
         Ok(())
     }
 
-    /// The worker leaves the task that it holds, and no task is taken from then on. Takes no memory.
+    /// The worker abandons the task that it holds, and no task is taken from then on. Takes no memory.
     pub fn stop(&mut self, worker: usize)
         requires holds { holds worker self.old.entries.items ≡ true }
         ensures entries { self.new.entries.items ≡ self.old.entries.items ++ StopEntry worker ∷ [] }

@@ -1,4 +1,4 @@
-//! Two workers at a pool, with ample memory.
+//! Two workers on a pool, with enough memory.
 ghost use Rattle.std.specs.Prelude.{◌≡◌, [], IfOk};
 
 use crate::{Pool, Taken};
@@ -8,7 +8,7 @@ use ops_base::memory::OutOfMemory;
 use std::alloc::Global;
 use std::test::Fail;
 
-// element 1 arrives at a node
+// the task of element 1 arriving at a node
 fn task_at(alloc: Global, node: usize) -> Result<Task, OutOfMemory> {
     let token = Tags::from_slice(alloc, &[1])?;
     Ok(Task {

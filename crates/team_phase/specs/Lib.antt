@@ -1,3 +1,3 @@
--- What an engine is whose phases a team may share, and what a team does.
+-- An engine whose phases a team may share, and what a team does.
 pub mod Engines
 pub mod Helping

@@ -1,4 +1,4 @@
-//! Help with tasks in flight: a call that does them, and what comes of them, in a way of its own.
+//! Help with tasks in flight: a call that performs them, and the tasks that result, in its own way.
 ghost use Rattle.std.specs.Prelude.{IfOk};
 ghost use Rattle.team_phase.specs.Helping.{CanHelp, HasShared, Helps, MayShare};
 
@@ -7,14 +7,14 @@ use ops_base::memory::OutOfMemory;
 use step_core::Parts;
 use work_store::Store;
 
-/// What a team is asked to do: the lines with the tasks in flight, and how many workers it has.
+/// What a team is given to do: the lines with the tasks in flight, and the number of workers.
 #[derive(Drop)]
 pub struct Load {
     pub parts: Parts,
     pub workers: usize,
 }
 
-/// Calls for help. Each phase that was on its way in what is handed out is on its way in what comes back.
+/// Calls for help. Each phase that was in progress in what is passed is in progress in what comes back.
 pub(crate) fn ask_help<F: Fn(Load) -> Result<Parts, OutOfMemory>>(
     help: &F,
     net: &Net,
@@ -26,7 +26,7 @@ pub(crate) fn ask_help<F: Fn(Load) -> Result<Parts, OutOfMemory>>(
     requires may { MayShare net.now.nodes store.now load }
     ensures { IfOk result (HasShared net.now.alphas net.now.nodes store.now load.parts) }
 {
-    // Contracts alone look at these.
+    // Only contracts read these.
     let _net = net;
     let _store = store;
     help(load)

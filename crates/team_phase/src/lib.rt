@@ -1,4 +1,4 @@
-//! A phase that a team of workers may share: on the calling thread first, and then with help where that pays.
+//! A phase that a team of workers may share: on the calling thread first, and then with help if that pays.
 #![tactic(auto)]
 
 mod help;

@@ -1,4 +1,4 @@
-//! A phase at work: on the calling thread as long as few tasks are in flight, and then by several workers.
+//! A phase at work: on the calling thread while few tasks are in flight, and then by several workers.
 ghost use Rattle.std.specs.Prelude.{◌≡◌, ◌≤◌, ◌^◌, All, IfOk, OnOk, [], length, map};
 ghost use Rattle.activation.specs.Acting.{IsCounted};
 ghost use Rattle.step_core.specs.Feeding.{IsKnown};
@@ -31,16 +31,17 @@ pub struct Sharing {
     pub shared: bool,
 }
 
-/// So many tasks are not shared just because nothing was shared before. Light ones, as those of the first phase of a
-/// program, would lose by it, and what several threads make lies less well in memory for all that comes later.
+/// From this many tasks on, tasks are not shared merely because nothing was shared before. Sharing light tasks, such
+/// as those of a program's first phase, would lose time, and data that several threads allocate has worse locality
+/// for all that follows.
 const MANY_AT_FIRST: usize = 256;
 
-/// Whether these tasks are shared because nothing was shared before: two or more, but few.
+/// Whether to share these tasks because nothing was shared before: there are at least two, but few.
 fn is_first_chance(tasks: usize, sharing: Sharing) -> bool {
     !sharing.shared && sharing.workers > 1 && tasks > 1 && tasks < MANY_AT_FIRST
 }
 
-/// How many workers share these tasks: two at the first chance, and otherwise as many as there may be.
+/// How many workers share these tasks: two at the first chance, otherwise the most that there may be.
 fn team_size(tasks: usize, sharing: Sharing) -> usize
     requires some { 1 ≤ sharing.workers }
     ensures some { 1 ≤ result }
@@ -53,8 +54,8 @@ fn team_size(tasks: usize, sharing: Sharing) -> usize
     }
 }
 
-/// Does tasks in flight on the calling thread, from the last on, and what comes of them, until none is left or it pays
-/// to share the rest. It does none where a few tasks can be shared for the first time.
+/// Performs tasks in flight on the calling thread, starting with the last, and all tasks that result, until none is
+/// left or it pays to share the rest. It performs none if a few tasks can be shared for the first time.
 fn work_alone<G: Gate>(
     alloc: Global,
     net: &Net,
@@ -79,7 +80,7 @@ fn work_alone<G: Gate>(
     begin_alone(alloc, net, store, &enter, world, sharing.worth)
 }
 
-/// Does these tasks, and all that comes of them, on the calling thread.
+/// Performs these tasks, and all that result, on the calling thread.
 fn finish_alone<G: Gate>(
     alloc: Global,
     net: &Net,
@@ -102,7 +103,7 @@ fn finish_alone<G: Gate>(
     Ok(world)
 }
 
-/// A world to stand in the place of one that is taken out: one bare line, and nothing under way.
+/// A placeholder for a world that is taken out: one bare line, and nothing pending.
 fn stand_in(alloc: Global) -> Result<World, OutOfMemory> {
     let mut lines = Vec::new(alloc);
     lines.push(Line::new(alloc, 0))?;
@@ -113,8 +114,8 @@ fn stand_in(alloc: Global) -> Result<World, OutOfMemory> {
     World::from_parts(alloc, parts)
 }
 
-/// Does the tasks in flight of a world that was taken out of its place, and all that comes of them, by several workers
-/// where that pays. The calling thread does what they leave. It also moves or looks at each line.
+/// Performs the tasks in flight of a world that was taken out of its place, and all that result, with several workers
+/// if that pays. The calling thread performs the tasks that they leave. It also moves or looks at each line.
 fn work_taken<F: Fn(Load) -> Result<Parts, OutOfMemory>, G: Gate>(
     help: &F,
     alloc: Global,
@@ -148,8 +149,8 @@ fn work_taken<F: Fn(Load) -> Result<Parts, OutOfMemory>, G: Gate>(
     finish_alone(alloc, net, store, gate, parts)
 }
 
-/// Does the tasks in flight, and all that comes of them, by several workers where that pays. Where none is in flight it
-/// does nothing; otherwise it takes the world out of its place for this, and also moves or looks at each line.
+/// Performs the tasks in flight, and all that result, with several workers if that pays. If none is in flight it does
+/// nothing. Otherwise it takes the world out of its place for this, and also moves or looks at each line.
 fn work_shared<F: Fn(Load) -> Result<Parts, OutOfMemory>, G: Gate>(
     help: &F,
     alloc: Global,
@@ -180,8 +181,8 @@ fn work_shared<F: Fn(Load) -> Result<Parts, OutOfMemory>, G: Gate>(
     Ok(())
 }
 
-/// Does the tasks in flight, and all that comes of them, on the calling thread and by a team. It also moves each line
-/// where the team helped.
+/// Performs the tasks in flight, and all that result, on the calling thread and by a team. It also moves each line if
+/// the team helped.
 fn work_off<F: Fn(Load) -> Result<Parts, OutOfMemory>, G: Gate>(
     help: &F,
     alloc: Global,
@@ -211,7 +212,7 @@ fn work_off<F: Fn(Load) -> Result<Parts, OutOfMemory>, G: Gate>(
     Ok(())
 }
 
-/// Does all tasks in flight where these are too many to feed a change more, and none otherwise.
+/// Performs all tasks in flight if there are too many to feed one more change, and none otherwise.
 fn make_room<F: Fn(Load) -> Result<Parts, OutOfMemory>, G: Gate>(
     help: &F,
     alloc: Global,
@@ -241,7 +242,7 @@ fn make_room<F: Fn(Load) -> Result<Parts, OutOfMemory>, G: Gate>(
     Ok(())
 }
 
-/// Puts the tasks of the changes into flight, in the order of the changes. Before each change room is made.
+/// Puts the tasks of the changes into flight, in the order of the changes. Before each change it makes room.
 fn feed_in_turns<F: Fn(Load) -> Result<Parts, OutOfMemory>, G: Gate>(
     help: &F,
     alloc: Global,
@@ -275,7 +276,7 @@ fn feed_in_turns<F: Fn(Load) -> Result<Parts, OutOfMemory>, G: Gate>(
     Ok(())
 }
 
-/// Does the phase of these changes, which the store has done. The lines begin it.
+/// Runs the phase of these changes, which the store has already done. At the start the lines begin the phase.
 pub fn run_phase<F: Fn(Load) -> Result<Parts, OutOfMemory>, G: Gate>(
     help: &F,
     alloc: Global,

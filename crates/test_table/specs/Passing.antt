@@ -15,21 +15,21 @@ is_variable (Constant c) = false
 is_variable (OneOf cs) = false
 is_variable (Variable v) = true
 
--- the test compares with what a variable is bound to
+-- the test compares with the value that a variable is bound to
 abbrev pub compares_with_variable : Test → Bool
 compares_with_variable t = if t.binds then false else is_variable t.operand
 
--- the test that an operand makes of a value, where its variable is bound to `bound`
+-- the result of testing a value against an operand whose variable is bound to `bound`
 abbrev pub operand_passes : Pred → Value → Operand → Option Value → Bool
 operand_passes pred a (Constant c) bound = holds_of pred a c
 operand_passes pred a (OneOf cs) bound = list_any (λ c. are_same a c) cs
 operand_passes pred a (Variable v) bound = holds_against pred a bound
 
--- a test that binds passes at every value
+-- a test that binds passes for every value
 abbrev pub passes_of : Test → Value → Option Value → Bool
 passes_of t a bound = if t.binds then true else operand_passes t.pred a t.operand bound
 
--- `bound` is what the bindings have at the operand's variable, if it is one
+-- `bound` is the value in the bindings of the operand's variable, if the operand is one
 abbrev pub IsBoundIn : List Binding → Operand → Option Value → Type 0
 IsBoundIn bindings (Constant c) bound = Unit {0}
 IsBoundIn bindings (OneOf cs) bound = Unit {0}

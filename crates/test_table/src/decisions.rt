@@ -1,10 +1,10 @@
-//! The ways in which two values of one kind decide a test.
+//! The ways in which a test of two values of the same kind is decided.
 ghost use Rattle.std.specs.Prelude.{◌≡◌};
 ghost use Rattle.test_table.specs.Decisions.{symbols_decide, numbers_decide};
 
 use ops_base::values::Sym;
 
-/// What decides between two symbols, which are in no order.
+/// How two symbols are compared; symbols have no order.
 #[derive(Clone, Copy)]
 pub enum OfSymbols {
     Never,
@@ -13,7 +13,7 @@ pub enum OfSymbols {
     Inequality,
 }
 
-/// What decides between two numbers.
+/// How two numbers are compared.
 #[derive(Clone, Copy)]
 pub enum OfNumbers {
     Always,
@@ -25,7 +25,7 @@ pub enum OfNumbers {
     AtLeast,
 }
 
-/// Decides between two symbols.
+/// Compares two symbols.
 pub fn of_symbols(decides: OfSymbols, a: Sym, b: Sym) -> bool
     ensures { result ≡ symbols_decide decides a b }
 {
@@ -37,7 +37,7 @@ pub fn of_symbols(decides: OfSymbols, a: Sym, b: Sym) -> bool
     }
 }
 
-/// Decides between two numbers.
+/// Compares two numbers.
 pub fn of_numbers(decides: OfNumbers, x: i128, y: i128) -> bool
     ensures { result ≡ numbers_decide decides x y }
 {

@@ -31,7 +31,7 @@ fn compares(pred: Pred, field: Value, operand: Value) -> bool
     }
 }
 
-// A disjunction goes by the row of `=`, whatever the predicate.
+// A disjunction uses the row of `=`, whatever the predicate.
 fn is_one_of(values: &[Value], field: Value) -> bool
     ensures { result ≡ list_any (λ c. are_same field c) values.now }
 {
@@ -52,12 +52,13 @@ fn passed(test: &Test, field: Value, bound: Option<Value>) -> bool
     }
 }
 
-/// Whether a field's value passes one test. `bound` is what the test's variable is bound to, and is there where the
-/// test compares with a variable. A test that binds passes at every value; any other where its predicate holds against
-/// the constant or the variable's value, or where one of the constants of its disjunction is the same value.
+/// Whether a field's value passes one test. `bound` is the value that the test's variable is bound to, and is present
+/// if the test compares with a variable. A test that binds passes for every value. A disjunction passes if one of its
+/// constants is the same value. Any other test passes if its predicate holds against the constant or the variable's
+/// value.
 ///
-/// It takes no memory. A call reads one entry of the table and compares once; a test that binds does neither, and a
-/// disjunction does both for each constant up to the first that is the same.
+/// It takes no memory. A call reads one entry of the table and makes one comparison. A test that binds does neither,
+/// and a disjunction does both for each constant up to the first that is the same.
 pub fn passes(test: &Test, field: Value, bound: Option<Value>) -> bool
     requires { IsTrue (compares_with_variable test.now) → IsSome bound }
     ensures meaning { result ≡ passes_of test.now field bound }

@@ -1,4 +1,4 @@
-//! What decides each predicate at each pair of kinds of values.
+//! How each predicate is decided for each pair of kinds of values.
 ghost use Rattle.std.specs.Prelude.{◌≡◌, ℤ};
 ghost use Rattle.ops_base.specs.declared.values.Sym.{Sym};
 ghost use Rattle.ops_base.specs.declared.values.Value.TheVariants.{Symbol, Whole};
@@ -11,11 +11,12 @@ use ops_base::values::Pred;
 /// One predicate, with an entry for each pair of kinds of the field's value and the operand's value.
 #[derive(Clone, Copy)]
 struct Row {
-    /// What decides between two symbols.
+    /// How two symbols are compared.
     symbols: OfSymbols,
-    /// Whether a symbol and a number pass, whichever of them the field holds. They are never equal and in no order.
+    /// Whether the test passes for a symbol and a number, whichever of them the field holds. They are never equal and
+    /// have no order.
     two_kinds: bool,
-    /// What decides between two numbers.
+    /// How two numbers are compared.
     numbers: OfNumbers,
 }
 
@@ -84,7 +85,7 @@ macro_rules! entry {
     };
 }
 
-/// What decides between two symbols.
+/// How two symbols are compared.
 pub fn between_symbols(pred: Pred) -> OfSymbols
     ensures { (a b : Sym) → symbols_decide result a b ≡ holds_of pred (Symbol a) (Symbol b) }
 {
@@ -99,7 +100,7 @@ pub fn between_two_kinds(pred: Pred) -> bool
     entry!(pred, two_kinds)
 }
 
-/// What decides between two numbers.
+/// How two numbers are compared.
 pub fn between_numbers(pred: Pred) -> OfNumbers
     ensures { (x y : ℤ) → numbers_decide result x y ≡ holds_of pred (Whole x) (Whole y) }
 {

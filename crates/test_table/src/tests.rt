@@ -1,4 +1,4 @@
-//! Each predicate at each pair of kinds, disjunctions, and tests that bind.
+//! Each predicate for each pair of kinds, disjunctions, and tests that bind.
 
 use crate::passes;
 use ops_base::conditions::{Operand, Test};
@@ -8,7 +8,7 @@ use ops_base::values::{Pred, Sym, Value};
 use std::alloc::Global;
 use std::test::Fail;
 
-// What a constant and a variable with this value say.
+// The results with a constant and with a variable of this value.
 fn at(pred: Pred, field: Value, operand: Value) -> (bool, bool) {
     let constant = Test {
         field: 0,
@@ -47,7 +47,7 @@ const PAIRS: [(Value, Value); 8] = [
     (FOUR, THREE),
 ];
 
-// A row for each predicate, with what it says of each pair.
+// A row for each predicate, with its result for each pair.
 const ROWS: [(Pred, [bool; 8]); 7] = [
     (
         Pred::Eq,

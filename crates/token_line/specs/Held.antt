@@ -11,24 +11,24 @@ use Rattle.net_base.specs.declared.tasks.Task.{Task}
 use Rattle.net_base.specs.Tokens.{Elements}
 use Rattle.net_base.specs.Sound.{left_width}
 
--- these are the elements of all tags that the store holds
+-- for every tag that the store holds, this choice of elements has the store's element
 abbrev pub Agrees : Stored → Elements → Type 0
 Agrees s elements = (tag : ℕ) (e : Element) → held_of s tag ≡ Some e → elements tag ≡ Some e
 
--- a right token is one element, at a group it has the tags of its members too, and at a terminal there is none
+-- a right token is one element; at a group it also has the tags of its members; at a terminal there is none
 abbrev pub is_right_wide : Kind → List ℕ → Bool
 is_right_wide Join t = length t == 1
 is_right_wide Negated t = length t == 1
 is_right_wide (Group giver width members) t = length t == width + members
 is_right_wide (Terminal rule) t = false
 
--- the token has as many tags as those of one side of the node
+-- the token has as many tags as the tokens of that side of the node
 abbrev pub is_wide : List Node → Node → Side → List ℕ → Bool
 is_wide nodes node Left t = length t == left_width nodes node.parent
 is_wide nodes node Right t = is_right_wide node.kind t
 
--- A token of one side of a node, all of whose elements the store holds. Each part has one proof at most, so a type can
--- keep this as its invariant.
+-- A token of one side of a node, all of whose elements the store holds. Each field has at most one proof, so a type
+-- can keep this as its invariant.
 pub record Fits (nodes : List Node) (s : Stored) (n : ℕ) (side : Side) (t : List ℕ) : Type 0 where
   pub within : n < length nodes
   pub width : (node : Node) → slice_get nodes n ≡ Some node → is_wide nodes node side t ≡ true

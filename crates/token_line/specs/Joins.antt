@@ -6,8 +6,8 @@ use Rattle.ops_base.specs.Values.{holds_of}
 use Rattle.net_base.specs.declared.nodes.JoinTest.{JoinTest}
 use Rattle.net_base.specs.Tokens.{Elements, field_in}
 
--- Each test holds of this element, where there is one, and of those that the left token t names. So it is `joins_hold`
--- of a tag whose element this is.
+-- Each test holds of this element, if there is one, and of those that the left token t names. So this is `joins_hold`
+-- for a tag that names this element.
 abbrev pub joins_with : List JoinTest → Elements → List ℕ → Option Element → Bool
 joins_with tests elements t e =
     list_all (λ j. holds_of j.pred (field_in e j.field) (field_in (elements (slice_index t j.place)) j.other)) tests

@@ -1,4 +1,4 @@
--- Signed tokens, the lines that hold them, and the numbers of these.
+-- Signed tokens, the lines that hold them, and the numbers of the lines.
 pub mod Bags
 pub mod Numbers
 pub mod Held

@@ -1,5 +1,5 @@
--- What a line holds: a sum for each node, side and token, a number for each node and left token, and the code under
--- which it keeps a token.
+-- What a line holds: a sum for each node, side and token, a blocker count for each node and left token, and the code
+-- under which it keeps a token.
 use Rattle.std.specs.Prelude.{◌≡◌, ◌≢◌, ◌⊎◌, ℕ, true, List, nat_eq, Option, None, IsSome}
 use Rattle.std.specs.Map.{lookup}
 use Rattle.net_base.specs.declared.tasks.Side.{Side}
@@ -14,7 +14,7 @@ use Rattle.token_line.specs.inner.Codes.{cell_among, filed_among, memory_of}
 use Rattle.token_line.specs.inner.Spots.{IsSpotAmong}
 use Rattle.token_line.specs.Sums.{blockers_kept, sum_kept}
 
--- the memory of a node's tokens with this code, none where it has none
+-- the memory of a node's tokens with this code, or none if it has none
 abbrev pub memory_at : Line → ℕ → ℕ → Option CodeMemory
 memory_at line n c = memory_of (lookup (nat_eq n) line.memories) c
 
@@ -30,19 +30,19 @@ IsFiled line n c s t = IsSome (filed_in line n c s t)
 abbrev pub IsAlone : Line → ℕ → ℕ → Side → List ℕ → Type 0
 IsAlone line n c s t = (d : ℕ) → d ≢ c → filed_in line n d s t ≡ None
 
--- what the new line keeps under a code, the old one kept under it
+-- whatever the new line keeps under a code, the old one kept under that code
 abbrev pub KeepsCodes : Line → Line → Type 0
 KeepsCodes old new = (n c : ℕ) (s : Side) (t : List ℕ) → IsFiled new n c s t → IsFiled old n c s t
 
--- the same but for the token of the task, which has this code
+-- the same, except for the token of the task, which has this code
 abbrev pub KeepsCodesBut : Line → Line → ℕ → Task → Type 0
 KeepsCodesBut old new code x = (n c : ℕ) (s : Side) (t : List ℕ) → IsFiled new n c s t → IsFiled old n c s t ⊎ ((c ≡ code) × (is_at n s t x ≡ true))
 
--- the sum of a token at one side of a node, whatever its code, 0 where the line does not keep it
+-- the sum of a token at one side of a node, whatever its code, or 0 if the line does not keep it
 abbrev pub sum_in : Line → Bag
 sum_in line n s t = sum_kept (cell_among line.memories n s t)
 
--- the number that is kept with a left token of a node, 0 where the line does not keep it
+-- the blocker count that is kept with a left token of a node, or 0 if the line does not keep the token
 abbrev pub blockers_in : Line → ℕ → List ℕ → ℕ
 blockers_in line n t = blockers_kept (cell_among line.memories n Left t)
 

@@ -1,4 +1,4 @@
--- How the code keeps its lists: nothing here says what a line means.
+-- How the code keeps its lists: nothing here defines what a line means.
 pub mod Pairs
 pub mod SmallMap
 pub mod SmallMapLends

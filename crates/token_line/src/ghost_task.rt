@@ -1,11 +1,11 @@
-//! A task that was done, which contracts alone see.
+//! A task that was performed, visible only to contracts.
 ghost use Rattle.std.specs.Prelude.{◌≡◌};
 
 use net_base::tasks::Task;
 use std::marker::Model;
 use std::snapshot::Snapshot;
 
-/// A task that takes no bytes. No code reads it here.
+/// A zero-sized record of a task. No code can read the task from it.
 #[derive(Drop)]
 pub struct GhostTask {
     task: Snapshot<Task>,
@@ -20,7 +20,7 @@ impl Model for GhostTask {
 }
 
 impl GhostTask {
-    /// That this task was done. Takes no memory.
+    /// Records that this task was performed. Takes no memory.
     pub fn of(task: &Task) -> GhostTask
         ensures { result ≡ task.now }
     {

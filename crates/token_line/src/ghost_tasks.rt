@@ -1,4 +1,4 @@
-//! The tasks that a task gave, which contracts alone see.
+//! The tasks that a task created, visible only to contracts.
 ghost use Rattle.std.specs.Prelude.{◌≡◌, [], drop};
 
 use net_base::tasks::Task;
@@ -6,7 +6,7 @@ use std::alloc::Global;
 use std::marker::Model;
 use std::snapshot::Snapshot;
 
-/// A list of tasks that takes no bytes. The tasks themselves went on: no code reads them here.
+/// A zero-sized record of a list of tasks. The tasks themselves have been passed on: no code can read them from it.
 #[derive(Drop)]
 pub struct GhostTasks {
     all: Snapshot<Vec<Task>>,
@@ -30,7 +30,7 @@ impl GhostTasks {
         GhostTasks::since(&Vec::new(alloc), 0)
     }
 
-    /// The tasks that stand in the list from that place on. Takes no memory.
+    /// Records the tasks in the list from this index on. Takes no memory.
     pub fn since(all: &Vec<Task>, from: usize) -> GhostTasks
         ensures { result ≡ drop from all.now.items }
     {

@@ -1,4 +1,4 @@
-//! Whether a right token goes with a left one at a node: an element that it joins, or at a group a longer token.
+//! Whether a right token goes with a left one at a node: an element that joins it or, at a group, a longer token.
 ghost use Rattle.std.specs.Prelude.{◌≡◌, slice_index};
 ghost use Rattle.std.specs.Option.{option_copied};
 ghost use Rattle.ops_base.specs.Values.{holds_of};
@@ -12,7 +12,7 @@ use ops_base::matching::holds;
 use ops_base::values::{NOTHING, Value};
 use work_store::Store;
 
-/// The field of the element, nil where there is none.
+/// The field of the element, or nil if there is none.
 pub(crate) fn field_of(element: Option<&Element>, field: usize) -> Value
     ensures { result ≡ field_in (option_copied element.entry) field }
 {
@@ -22,7 +22,7 @@ pub(crate) fn field_of(element: Option<&Element>, field: usize) -> Value
     }
 }
 
-/// The tag at a place, 0 where there is none.
+/// The tag at a place, or 0 if there is none.
 pub fn tag_at(tags: &[u64], place: usize) -> u64
     ensures { result ≡ slice_index tags.now place }
 {
@@ -32,7 +32,7 @@ pub fn tag_at(tags: &[u64], place: usize) -> u64
     }
 }
 
-/// Whether the test holds of this element, and of those that the left token names.
+/// Whether the test holds of this element and of the elements that the left token names.
 fn test_holds(store: &Store, token: &[u64], element: Option<&Element>, test: &JoinTest) -> bool
     ensures { result ≡ holds_of test.now.pred (field_in (option_copied element.entry) test.now.field) (field_in (held_of store.now (slice_index token.now test.now.place)) test.now.other) }
 {
@@ -44,7 +44,7 @@ fn test_holds(store: &Store, token: &[u64], element: Option<&Element>, test: &Jo
     )
 }
 
-/// Whether all tests hold of this element and of the left token. It looks up an element for each test, and takes no
+/// Whether all tests hold of this element and of the left token. It looks up one element for each test, and takes no
 /// memory.
 pub fn joins_element(
     store: &Store,
@@ -59,14 +59,14 @@ pub fn joins_element(
         .all(|test| test_holds(store, token, element, test))
 }
 
-/// The same of the element of that tag, which it looks up first.
+/// The same for the element with that tag, which it looks up first.
 pub fn joins(store: &Store, tests: &[JoinTest], token: &[u64], tag: u64) -> bool
     ensures { result ≡ joins_hold tests.now (held_of store.now) token.now tag }
 {
     joins_element(store, tests, token, store.kept(tag))
 }
 
-/// Whether the right token covers the left one: its first tags, as many as this width, are the left token.
+/// Whether the right token covers the left one: the first `width` tags of the right token are the left token.
 fn covers(width: usize, left: &[u64], right: &[u64]) -> bool
     ensures { result ≡ covers width left.now right.now }
 {
@@ -77,8 +77,8 @@ fn covers(width: usize, left: &[u64], right: &[u64]) -> bool
     }
 }
 
-/// Whether the right token goes with the left one at this node: at a join or a negated node where all tests hold of its
-/// element, at a group where it covers the left one, and at a terminal never. It looks up an element for each test, or
+/// Whether the right token goes with the left one at this node: at a join or a negated node, if all tests hold of its
+/// element; at a group, if it covers the left one; at a terminal, never. It looks up an element for each test, or
 /// compares the tags of the left token. It takes no memory.
 pub fn goes_with(store: &Store, node: &Node, left: &[u64], right: &[u64]) -> bool
     ensures { result ≡ goes_with node.now.kind node.now.joins (held_of store.now) left.now right.now }

@@ -1,4 +1,4 @@
-//! The lines of a match: on each stand tokens of both sides of nodes, with how often they came and went.
+//! The lines of a match. A line holds tokens of both sides of nodes, with the inserts less the deletes of each.
 #![tactic(auto)]
 
 pub mod ghost_task;

@@ -1,4 +1,4 @@
-//! A line: the tokens of every node that stand on it, and what was done there in this phase.
+//! A line: the tokens of every node that it holds, and what was done on it in this phase.
 ghost use Rattle.std.specs.Prelude.{◌≡◌, ◌≢◌, ◌<◌, ◌∷◌, ◌++◌, ◌==◌, ◌&&◌, ◌-◌, ◌^◌, ◌+ℤ◌, IfOk, IfSome, List, None, OnErr, OnOk, [], if◌then◌else◌, length, pos, true, ℕ};
 ghost use Rattle.std.specs.Option.{option_copied};
 ghost use Rattle.work_store.specs.Stored.{held_of};
@@ -24,19 +24,19 @@ use ops_base::memory::OutOfMemory;
 use std::alloc::Global;
 use work_store::Store;
 
-/// At most this many nodes of a line are kept as a list. A pair of it is 16 bytes wide: to look at all of them waits less
-/// for memory than to hash one does.
+/// At most this many nodes of a line are kept as a list. A pair in it is 16 bytes wide: scanning all of them waits
+/// less for memory than hashing one.
 const FEW_NODES: usize = 64;
 
-/// A task that was done, and the tasks that it gave. Contracts alone see both: an entry takes no bytes.
+/// A task that was performed, and the tasks that it created. Only contracts can see both: an entry takes no bytes.
 #[derive(Drop)]
 pub struct Entry {
     pub task: GhostTask,
     pub children: GhostTasks,
 }
 
-/// The tokens that stand on one line, by their nodes and codes, and what was done there since the phase began, in this
-/// order. Of that it keeps the tasks that are to be reported.
+/// The tokens on one line, by node and code, and what was done there since the phase began, in order. Of the latter
+/// it keeps only the tasks that are to be reported.
 #[derive(Drop)]
 pub struct Line {
     number: usize,
@@ -47,7 +47,7 @@ pub struct Line {
     ghost some: { HaveSums memories },
 }
 
-/// The sum after one insert or delete more. One that would not fit is answered as out of memory.
+/// The sum after one more insert or delete. A sum that would not fit is reported as out of memory.
 fn next_sum(sum: &i64, plus: bool) -> Result<i64, OutOfMemory>
     ensures { IfOk result (λ new. new ≡ sum.now +ℤ sign plus) }
 {
@@ -62,7 +62,7 @@ fn next_sum(sum: &i64, plus: bool) -> Result<i64, OutOfMemory>
     }
 }
 
-/// What is kept of a token with this sum.
+/// What is kept of a token with this sum and this number of blockers: nothing if the sum is 0.
 fn cell_with(sum: &i64, blockers: u64) -> Option<TokenCount>
     ensures sum { sum_kept result ≡ sum.now }
     ensures some { IfSome result (λ c. c.sum ≢ pos 0) }
@@ -76,7 +76,7 @@ fn cell_with(sum: &i64, blockers: u64) -> Option<TokenCount>
     }
 }
 
-/// Reports the task, if it is to be reported.
+/// Appends the task to the reported ones, if `is_told` is set.
 fn tell(told: &mut Vec<Task>, alloc: Global, task: &Task, is_told: bool) -> Result<(), OutOfMemory>
     ensures ok { OnOk result (told.new.items ≡ told.old.items ++ (if is_told then task.now ∷ [] else [])) }
     ensures err { OnErr result (told.new.items ≡ told.old.items) }
@@ -87,7 +87,8 @@ fn tell(told: &mut Vec<Task>, alloc: Global, task: &Task, is_told: bool) -> Resu
     Ok(())
 }
 
-/// A node with no token left leaves the line. It is looked at only if a token of it has just left.
+/// Removes a node from the line if it has no token left. The node is checked only if one of its tokens has just been
+/// removed.
 fn drop_if_empty(memories: &mut SmallMap<usize, NodePlace>, place: usize, has_left: bool)
     requires { place < length memories.old }
     ensures { (n c : ℕ) (s : Side) (t : List ℕ) → filed_among memories.new n c s t ≡ filed_among memories.old n c s t }
@@ -102,7 +103,7 @@ fn drop_if_empty(memories: &mut SmallMap<usize, NodePlace>, place: usize, has_le
     }
 }
 
-/// Keeps something else of the token at the spot, or keeps it no more. Where memory runs out, nothing has changed.
+/// Replaces what is kept of the token at the spot, or stops keeping it. If memory runs out, nothing has changed.
 #[inline(always)]
 fn put(
     memories: &mut SmallMap<usize, NodePlace>,
@@ -132,7 +133,7 @@ fn put(
     Ok(())
 }
 
-/// The same, and reports the task, if it is to be reported.
+/// The same, and reports the task if it is to be reported.
 #[inline(always)]
 fn put_and_tell(
     memories: &mut SmallMap<usize, NodePlace>,
@@ -161,7 +162,7 @@ fn put_and_tell(
     }
 }
 
-/// One right token more, or one less, for each left token of the node with this code that it goes with.
+/// Adds or removes one blocker at each left token of the node with this code that the right token goes with.
 fn block(
     memories: &mut SmallMap<usize, NodePlace>,
     store: &Store,
@@ -185,7 +186,7 @@ fn block(
 impl Line {
     ghost use Rattle.token_line.specs.Lines.{IsAlone, IsFiled, IsSpot, KeepsCodes, KeepsCodesBut, blockers_in, filed_in, memory_at, sum_in};
 
-    /// A line with no tokens, on which nothing was done. Takes no memory.
+    /// A line with no tokens and no entries. Takes no memory.
     pub fn new(alloc: Global, number: usize) -> Line
         ensures number { result.number ≡ number }
         ensures sums { (n : ℕ) (s : Side) (t : List ℕ) → sum_in result n s t ≡ pos 0 }
@@ -201,14 +202,14 @@ impl Line {
         }
     }
 
-    /// Takes no memory.
+    /// The number of the line. Takes no memory.
     pub fn number(&self) -> usize
         ensures { result ≡ self.now.number }
     {
         self.number
     }
 
-    /// The tokens of a node with this code, none where it has none. Takes no memory.
+    /// The tokens of a node with this code, or none if it has none. Takes no memory.
     pub fn memory(&self, node: usize, code: u64) -> Option<&CodeMemory>
         ensures { option_copied result ≡ memory_at self.now node code }
     {
@@ -228,25 +229,25 @@ impl Line {
         }
     }
 
-    /// The sum of a left token of a node, 0 where it is not kept. It compares the node with those of the line where
-    /// they are few, and hashes it where they are many. It looks for the token as `Tokens::find` does, under one code
-    /// after another: those of a terminal all have one. Takes no memory.
+    /// The sum of a left token of a node, or 0 if it is not kept. The line's nodes are scanned if they are few, and
+    /// hashed if they are many. The token is looked up as by `Tokens::find`, under one code after another: the tokens
+    /// of a terminal all have one code. Takes no memory.
     pub fn left_sum(&self, node: usize, token: &Tags) -> i64
         ensures { result ≡ sum_in self.now node Left token.now }
     {
         sum_of(self.cell(node, Side::Left, token))
     }
 
-    /// The sum of a right token of a node, 0 where it is not kept, at the cost of `left_sum`. Takes no memory.
+    /// The sum of a right token of a node, or 0 if it is not kept, at the cost of `left_sum`. Takes no memory.
     pub fn right_sum(&self, node: usize, token: &Tags) -> i64
         ensures { result ≡ sum_in self.now node Right token.now }
     {
         sum_of(self.cell(node, Side::Right, token))
     }
 
-    /// The spot of a token of one side of a node among those with its code, and the memory of these. It looks once for
-    /// the node, for the code where the node has several on the line, and for the token: each is compared with the
-    /// others where they are few, and hashed where they are many. Takes no memory.
+    /// The spot of a token of one side of a node among the tokens with its code, and the memory of these. It makes
+    /// one lookup of the node, one of the code if the node has several on the line, and one of the token. Each lookup
+    /// scans if there are few candidates, and hashes if there are many. Takes no memory.
     #[inline(always)]
     pub fn find(
         &self,
@@ -268,24 +269,23 @@ impl Line {
         }
     }
 
-    /// What was done since the phase began, in this order. When the program runs, only how many there are is known.
-    /// Takes no memory.
+    /// The entries since the phase began, in order. At run time only their number is known. Takes no memory.
     pub fn entries(&self) -> &[Entry]
         ensures { result.now ≡ self.now.entries.items }
     {
         self.entries.as_slice()
     }
 
-    /// The tasks that were done since the phase began and are to be reported, in this order. Takes no memory.
+    /// The tasks that were performed since the phase began and are to be reported, in order. Takes no memory.
     pub fn told(&self) -> &[Task]
         ensures { result.now ≡ self.now.told.items }
     {
         self.told.as_slice()
     }
 
-    /// Adds an entry of the task at the end, and the task to the sum of its token. A left token of the task is kept
-    /// with this many blockers. It is not reported. It looks for the token once, as `find` does. Where memory runs out,
-    /// or a sum would not fit, nothing has changed.
+    /// Appends an entry of the task, and adds the task to the sum of its token. If the task has a left token, it is
+    /// kept with this many blockers. The task is not reported. It looks the token up once, as `find` does. If memory
+    /// runs out, or a sum would not fit, nothing has changed.
     pub fn add(
         &mut self,
         alloc: Global,
@@ -310,9 +310,9 @@ impl Line {
         self.add_at(alloc, &spot, task, children, blockers, false)
     }
 
-    /// The same at the spot of the task's token, with no look for it. A token that is new to a memory of many is
-    /// hashed, and so is a code or a node that is new among many. The task is copied where it is to be reported, and
-    /// else its token alone, where that is new.
+    /// The same at the spot of the task's token, without a lookup. A token that is new to a memory with many tokens
+    /// is hashed, and so is a code or a node that is new among many. If the task is to be reported, it is copied;
+    /// otherwise only its token is copied, and only if the token is new.
     #[inline(always)]
     pub fn add_at(
         &mut self,
@@ -357,9 +357,10 @@ impl Line {
         Ok(())
     }
 
-    /// One right token more, or one less, for each left token of the node that it goes with: these have its code. `of`
-    /// is the node of that number. It looks at each left token of the node with this code: at a group that is the one
-    /// that it covers, and another only where their codes happen to be equal. It takes no memory.
+    /// Adds or removes one blocker at each left token of the node that the right token goes with: these have its
+    /// code. `of` is the node of that number. It examines each left token of the node with this code: at a group,
+    /// this is the one that the right token covers, and another one only if codes happen to be equal. It takes no
+    /// memory.
     pub fn block(
         &mut self,
         store: &Store,
@@ -381,7 +382,7 @@ impl Line {
         block(&mut self.memories, store, of, node, code, right, plus);
     }
 
-    /// Begins a phase: nothing was done. Takes no memory.
+    /// Begins a phase, with no entries. Takes no memory.
     pub fn clear_phase(&mut self)
         ensures sums { (n : ℕ) (s : Side) (t : List ℕ) → sum_in self.new n s t ≡ sum_in self.old n s t }
         ensures entries { self.new.entries.items ≡ [] }

@@ -1,4 +1,4 @@
-//! The memories of one node on one line: the tokens with one code have one memory.
+//! The memories of one node on one line: one memory for the tokens with each code.
 ghost use Rattle.std.specs.Prelude.{◌≡◌, ◌≢◌, ◌<◌, ◌==◌, ◌&&◌, ◌-◌, ◌^◌, [], IfSome, IsTrue, List, None, length, OnErr, OnOk, bytes_eq, if◌then◌else◌, nat_eq, pos, true, ℕ};
 ghost use Rattle.std.specs.Map.{keys_of, lookup};
 ghost use Rattle.std.specs.Option.{option_copied};
@@ -22,8 +22,8 @@ use ops_base::memory::OutOfMemory;
 use std::alloc::Global;
 use work_store::Store;
 
-/// The memories of one node on one line, by the codes of their tokens. The one whose code came first stands apart from
-/// the others: where a line has tokens of one code alone, no room is taken for others.
+/// The memories of one node on one line, by the codes of their tokens. The memory whose code came first is stored
+/// apart from the others: if a line has tokens of only one code, no room is taken for others.
 #[derive(Drop)]
 pub(crate) struct NodeMemory {
     code: u64,
@@ -31,7 +31,8 @@ pub(crate) struct NodeMemory {
     others: SmallMap<u64, CodeMemory>,
 }
 
-/// A memory that has become empty leaves the others. It is looked at only if a token of it has just left.
+/// Removes a memory that has become empty from the others. It is checked only if one of its tokens has just been
+/// removed.
 fn drop_if_empty(others: &mut SmallMap<u64, CodeMemory>, place: usize, has_left: bool)
     requires { place < length others.old }
     ensures { (c : ℕ) (s : Side) (t : List ℕ) → kept_among others.new c s t ≡ kept_among others.old c s t }
@@ -46,7 +47,7 @@ fn drop_if_empty(others: &mut SmallMap<u64, CodeMemory>, place: usize, has_left:
     }
 }
 
-/// Keeps something else of the token at the spot, or keeps it no more. Where memory runs out, nothing has changed.
+/// Replaces what is kept of the token at the spot, or stops keeping it. If memory runs out, nothing has changed.
 fn put_among(
     others: &mut SmallMap<u64, CodeMemory>,
     alloc: Global,
@@ -77,7 +78,7 @@ fn put_among(
 }
 
 impl NodeMemory {
-    /// No tokens, of which the first will have this code. Takes no memory.
+    /// No tokens; the first one will have this code. Takes no memory.
     pub(crate) fn new(alloc: Global, code: u64) -> NodeMemory
         ensures code { result.code ≡ code }
         ensures left { result.first.left ≡ [] }
@@ -91,7 +92,7 @@ impl NodeMemory {
         }
     }
 
-    /// The memory of the tokens with this code. It looks for the code where it is not the first. Takes no memory.
+    /// The memory of the tokens with this code. It looks the code up only if it is not the first. Takes no memory.
     pub(crate) fn memory(&self, code: u64) -> Option<&CodeMemory>
         ensures { option_copied result ≡ memory_under self.now code }
     {
@@ -111,7 +112,7 @@ impl NodeMemory {
         }
     }
 
-    /// What is kept of a token, whatever its code. It looks in one memory after another. Takes no memory.
+    /// What is kept of a token, whatever its code. It searches one memory after another. Takes no memory.
     pub(crate) fn cell(&self, side: Side, token: &Tags) -> Option<TokenCount>
         ensures { result ≡ cell_in self.now side token.now }
     {
@@ -121,7 +122,7 @@ impl NodeMemory {
         }
     }
 
-    /// The same with a code other than the first.
+    /// The same for a token whose code is not the first.
     fn cell_of_others(&self, side: Side, token: &Tags) -> Option<TokenCount>
         ensures { result ≡ first_some (λ c. cell_under self.now c side token.now) (keys_of self.now.others) }
     {
@@ -141,7 +142,7 @@ impl NodeMemory {
         self.first.is_empty() && self.others.is_empty()
     }
 
-    /// Keeps something else of the token at the spot, or keeps it no more. Where memory runs out, nothing has changed.
+    /// Replaces what is kept of the token at the spot, or stops keeping it. If memory runs out, nothing has changed.
     #[inline(always)]
     pub(crate) fn put(
         &mut self,
@@ -163,7 +164,7 @@ impl NodeMemory {
         }
     }
 
-    /// One right token more, or one less, for each left token with this code that it goes with. Takes no memory.
+    /// Adds or removes one blocker at each left token with this code that the right token goes with. Takes no memory.
     pub(crate) fn block(&mut self, store: &Store, of: &Node, code: u64, right: &[u64], plus: bool)
         requires room { plus ≡ true → (t : List ℕ) → sum_kept (cell_under self.old code Left t) ≢ pos 0 → blockers_kept (cell_under self.old code Left t) < 2 ^ 64 - 1 }
         ensures { (c : ℕ) (s : Side) (t : List ℕ) → cell_under self.new c s t ≡ cell_blocked ((c == code) && are_same_sides s Left) (goes_with of.now.kind of.now.joins (held_of store.now) t right.now) plus (cell_under self.old c s t) }
@@ -176,7 +177,7 @@ impl NodeMemory {
     }
 }
 
-/// The same of one whose code is not the first.
+/// The same for a code that is not the first.
 fn block_among(
     others: &mut SmallMap<u64, CodeMemory>,
     store: &Store,

@@ -1,5 +1,6 @@
-//! The tokens of one node with one code on one line, each with its sum: the inserts less the deletes that arrived. With
-//! each left token a number is kept: at a negated node or a group, how often right tokens stand that go with it.
+//! The tokens of one node with one code on one line, each with its sum: the inserts less the deletes that arrived. A
+//! number is kept with each left token: at a negated node or a group, the number of right tokens, by effective count,
+//! that go with it.
 ghost use Rattle.std.specs.Prelude.{◌≡◌, ◌≢◌, ◌<◌, ◌&&◌, ◌-◌, ◌^◌, ◌↔◌, [], IfSome, IsTrue, List, OnErr, OnOk, bytes_eq, if◌then◌else◌, pos, true, ℕ};
 ghost use Rattle.std.specs.Option.{option_map};
 ghost use Rattle.work_store.specs.Stored.{held_of};
@@ -36,7 +37,7 @@ impl CodeMemory {
         }
     }
 
-    /// The left tokens with what is kept of each. Takes no memory.
+    /// The left tokens, with what is kept of each. Takes no memory.
     pub fn left(&self) -> &Tokens
         ensures tokens { result.now ≡ self.now.left }
         ensures pairs { ArePairs self.now.left }
@@ -79,7 +80,7 @@ impl CodeMemory {
         self.left.is_empty() && self.right.is_empty()
     }
 
-    /// Keeps something else of a token of one side, or keeps it no more. Where memory runs out, nothing has changed.
+    /// Replaces what is kept of a token of one side, or stops keeping it. If memory runs out, nothing has changed.
     #[inline(always)]
     pub(crate) fn put(
         &mut self,
@@ -100,7 +101,7 @@ impl CodeMemory {
         }
     }
 
-    /// One right token more, or one less, for each left token that it goes with. Takes no memory.
+    /// Adds or removes one blocker at each left token that the right token goes with. Takes no memory.
     pub(crate) fn block(&mut self, store: &Store, of: &Node, right: &[u64], plus: bool)
         requires room { plus ≡ true → (t : List ℕ) → kept_sum self.old.left t ≢ pos 0 → blockers_of self.old.left t < 2 ^ 64 - 1 }
         ensures left { (t : List ℕ) → cell_of self.new.left t ≡ option_map (blocked (goes_with of.now.kind of.now.joins (held_of store.now) t right.now) plus) (cell_of self.old.left t) }

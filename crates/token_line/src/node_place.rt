@@ -1,4 +1,5 @@
-//! The memories of one node on one line, in a place of their own: so those of other nodes are passed over in little time.
+//! The memories of one node on one line, in an allocation of their own, so that a scan passes over other nodes
+//! quickly.
 ghost use Rattle.std.specs.Prelude.{◌≡◌, ◌≢◌, ◌<◌, ◌==◌, ◌&&◌, ◌-◌, ◌^◌, [], IfOk, IfSome, IsTrue, List, None, OnErr, OnOk, bytes_eq, if◌then◌else◌, pos, true, ℕ};
 ghost use Rattle.std.specs.Option.{option_copied};
 ghost use Rattle.work_store.specs.Stored.{held_of};
@@ -22,7 +23,7 @@ use std::alloc::Global;
 use std::marker::Model;
 use work_store::Store;
 
-/// The memories of one node. A contract sees them themselves.
+/// The memories of one node. Contracts see the memories themselves.
 #[derive(Drop)]
 pub(crate) struct NodePlace {
     memories: Box<NodeMemory>,
@@ -37,7 +38,7 @@ impl Model for NodePlace {
 }
 
 impl NodePlace {
-    /// No tokens, of which the first will have this code.
+    /// No tokens; the first one will have this code.
     pub(crate) fn new(alloc: Global, code: u64) -> Result<NodePlace, OutOfMemory>
         ensures code { IfOk result (λ m. m.code ≡ code) }
         ensures left { IfOk result (λ m. m.first.left ≡ []) }
@@ -73,7 +74,7 @@ impl NodePlace {
         memories.is_empty()
     }
 
-    /// Keeps something else of the token at the spot, or keeps it no more. Where memory runs out, nothing has changed.
+    /// Replaces what is kept of the token at the spot, or stops keeping it. If memory runs out, nothing has changed.
     #[inline(always)]
     pub(crate) fn put(
         &mut self,
@@ -90,7 +91,7 @@ impl NodePlace {
         self.memories.as_mut().put(alloc, spot, task, cell)
     }
 
-    /// One right token more, or one less, for each left token with this code that it goes with. Takes no memory.
+    /// Adds or removes one blocker at each left token with this code that the right token goes with. Takes no memory.
     pub(crate) fn block(&mut self, store: &Store, of: &Node, code: u64, right: &[u64], plus: bool)
         requires room { plus ≡ true → (t : List ℕ) → sum_kept (cell_under self.old code Left t) ≢ pos 0 → blockers_kept (cell_under self.old code Left t) < 2 ^ 64 - 1 }
         ensures { (c : ℕ) (s : Side) (t : List ℕ) → cell_under self.new c s t ≡ cell_blocked ((c == code) && are_same_sides s Left) (goes_with of.now.kind of.now.joins (held_of store.now) t right.now) plus (cell_under self.old c s t) }

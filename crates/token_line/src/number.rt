@@ -1,5 +1,5 @@
-//! The code of a token, and the number of the line on which it stands. Tokens that go together at a node have one code,
-//! and one line.
+//! The code of a token, and the number of its line. Tokens that go together at a node have the same code and are on
+//! the same line.
 ghost use Rattle.std.specs.Prelude.{◌≡◌, ◌<◌, ◌≤◌, fold, map, take};
 ghost use Rattle.std.specs.Option.{option_copied};
 ghost use Rattle.work_store.specs.Stored.{held_of};
@@ -15,7 +15,7 @@ use ops_base::elements::Element;
 use ops_base::values::{Pred, Value};
 use work_store::Store;
 
-/// Where a task is done: the number of its line, and the code under which the line keeps its token.
+/// Where a task is performed: the number of its line, and the code under which the line keeps its token.
 #[derive(Clone, Copy, Debug, PartialEq, Eq)]
 pub struct LineAndCode {
     pub line: usize,
@@ -25,8 +25,8 @@ pub struct LineAndCode {
 /// How many codes there are.
 const CODES: u128 = 1 << 64;
 
-/// A whole number's code is the number modulo 2^64: numbers that differ may have one, and then their tokens stand in
-/// one memory.
+/// The code of a value. The code of a whole number is the number modulo 2^64: different numbers may have the same
+/// code, and then their tokens are in the same memory.
 fn value_code(value: Value) -> u64
     ensures { result ≡ value_code value }
 {
@@ -52,15 +52,14 @@ fn is_equal(pred: Pred) -> bool
     }
 }
 
-/// What a left token has at the test: a field of the element that it names there.
+/// The left token's value at the test: a field of the element that the test names in it.
 fn left_value(store: &Store, tags: &[u64], test: &JoinTest) -> Value
     ensures { result ≡ own_value (held_of store.now) Left tags.now test.now }
 {
     field_of(store.kept(tag_at(tags, test.place)), test.other)
 }
 
-/// The code, with the token's values at the tests for equality mixed in. The element of a right token is looked up
-/// once.
+/// The code, with the token's values at the equality tests mixed in. The element of a right token is looked up once.
 #[inline(always)]
 fn with_values(store: &Store, side: Side, tags: &[u64], tests: &[JoinTest], code: u64) -> u64
     ensures { result ≡ fold mixed code (map (λ j. value_code (own_value (held_of store.now) side tags.now j)) (equalities tests.now)) }
@@ -75,7 +74,7 @@ fn with_values(store: &Store, side: Side, tags: &[u64], tests: &[JoinTest], code
     }
 }
 
-/// The code, with the fields of this element at the tests for equality mixed in.
+/// The code, with the fields of this element at the equality tests mixed in.
 fn with_fields(element: Option<&Element>, tests: &[JoinTest], code: u64) -> u64
     ensures { result ≡ fold mixed code (map (λ j. value_code (field_in (option_copied element.entry) j.field)) (equalities tests.now)) }
 {
@@ -86,7 +85,7 @@ fn with_fields(element: Option<&Element>, tests: &[JoinTest], code: u64) -> u64
         .fold(code, mixed)
 }
 
-/// The code, with all that the token's line goes by mixed in.
+/// The code, with everything that determines the token's line mixed in.
 pub(crate) fn with_token(store: &Store, node: &Node, side: Side, tags: &[u64], code: u64) -> u64
     ensures { result ≡ fold mixed code (own_codes (held_of store.now) node.now.kind node.now.joins side tags.now) }
 {
@@ -99,14 +98,14 @@ pub(crate) fn with_token(store: &Store, node: &Node, side: Side, tags: &[u64], c
     }
 }
 
-/// The code, with tags mixed in.
+/// The code, with the tags mixed in.
 fn with_tags(tags: &[u64], code: u64) -> u64
     ensures { result ≡ fold mixed code tags.now }
 {
     tags.iter().copied().fold(code, mixed)
 }
 
-/// The code, with the first tags mixed in, as many as this width.
+/// The code, with the first `width` tags mixed in.
 fn with_first_tags(tags: &[u64], width: usize, code: u64) -> u64
     ensures { result ≡ fold mixed code (take width tags.now) }
 {
@@ -117,7 +116,7 @@ fn with_first_tags(tags: &[u64], width: usize, code: u64) -> u64
     }
 }
 
-/// The code, with all that the token's code goes by mixed in.
+/// The code, with everything that determines the token's code mixed in.
 fn with_kept(store: &Store, node: &Node, side: Side, tags: &[u64], code: u64) -> u64
     ensures { result ≡ fold mixed code (kept_codes (held_of store.now) node.now.kind node.now.joins side tags.now) }
 {
@@ -130,9 +129,9 @@ fn with_kept(store: &Store, node: &Node, side: Side, tags: &[u64], code: u64) ->
     }
 }
 
-/// The code of the task's token, which goes by its node and by its values at the equality tests, and at a group by its
-/// first tags, as many as the left tokens have. It looks at each test of the node, or at each of these tags, and takes
-/// no memory.
+/// The code of the task's token. It is determined by the node and by the token's values at the equality tests; at a
+/// group, instead of these, by the token's first tags, as many as the left tokens have. It examines each test of the
+/// node, or each of these tags, and takes no memory.
 pub fn code_of(net: &Net, store: &Store, task: &Task) -> u64
     ensures { result ≡ code_of (held_of store.now) net.now.nodes task.now.node task.now.side task.now.token }
 {
@@ -143,8 +142,9 @@ pub fn code_of(net: &Net, store: &Store, task: &Task) -> u64
     }
 }
 
-/// The line of the task's token, where there are this many lines. It goes by what the code goes by, but at a terminal
-/// by all tags. It looks at each test of the node, or at each of these tags, and takes no memory.
+/// The line of the task's token, out of this many lines. It is determined by what determines the code, except that at
+/// a terminal it is determined by all tags. It examines each test of the node, or each of these tags, and takes no
+/// memory.
 pub fn line_of(net: &Net, store: &Store, task: &Task, lines: usize) -> usize
     requires { 1 ≤ lines }
     ensures number { result ≡ line_number (held_of store.now) net.now.nodes lines task.now.node task.now.side task.now.token }
@@ -158,8 +158,8 @@ pub fn line_of(net: &Net, store: &Store, task: &Task, lines: usize) -> usize
     (code % lines as u64) as usize
 }
 
-/// What the token's line goes by, before the number of lines is known, and its code: two numbers from one look at the
-/// tests or the tags.
+/// A number that determines the token's line once the number of lines is known, and the token's code: both from one
+/// pass over the tests or the tags.
 fn both_codes(store: &Store, node: &Node, side: Side, tags: &[u64], start: u64) -> (u64, u64)
     ensures number { result.0 ≡ fold mixed start (own_codes (held_of store.now) node.now.kind node.now.joins side tags.now) }
     ensures code { result.1 ≡ fold mixed start (kept_codes (held_of store.now) node.now.kind node.now.joins side tags.now) }
@@ -177,7 +177,7 @@ fn both_codes(store: &Store, node: &Node, side: Side, tags: &[u64], start: u64) 
     }
 }
 
-/// What `line_of` and `code_of` answer, for one look at each test of the node or each tag. Takes no memory.
+/// The results of `line_of` and `code_of`, from one pass over the tests of the node or the tags. Takes no memory.
 #[inline(always)]
 pub fn place_of(net: &Net, store: &Store, task: &Task, lines: usize) -> LineAndCode
     requires { 1 ≤ lines }

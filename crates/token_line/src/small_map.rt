@@ -1,4 +1,4 @@
-//! Pairs of a key and a value, of which no key is there twice: a list while they are few, a map where they are many.
+//! Key-value pairs with unique keys: a list while they are few, a map when they are many.
 ghost use Rattle.std.specs.Prelude.{◌≡◌, ◌<◌, ◌≤◌, ◌==◌, ◌++◌, ◌∷◌, ◌↔◌, [], IfSome, IsTrue, None, OnErr, OnOk, Some, if◌then◌else◌, length, position, slice_get};
 ghost use Rattle.std.specs.Borrow.{sem};
 ghost use Rattle.std.specs.List.{IsDistinct, swap_remove};
@@ -13,17 +13,17 @@ use std::hash::Hash;
 use std::marker::Model;
 use std::mem;
 
-/// At most this many pairs are kept as a list, where the caller names no other number.
+/// At most this many pairs are kept as a list, if the caller gives no other number.
 const FEW_PAIRS: usize = 8;
 
-// The map is boxed, since most rooms never have one.
+// The map is boxed, since most maps stay small and never need one.
 #[derive(Drop)]
 enum Room<K: Eq + Hash, V> {
     Few(Vec<(K, V)>),
     Many(Box<IndexMap<K, V>>),
 }
 
-/// Pairs of a key and a value. A contract sees them as the list of these pairs.
+/// Key-value pairs. Contracts see them as the list of these pairs.
 #[derive(Drop)]
 pub(crate) struct SmallMap<K: Eq + Hash, V> {
     room: Room<K, V>,
@@ -50,7 +50,7 @@ fn place_in<K: Eq, V>(list: &[(K, V)], key: &K) -> Option<usize>
     list.iter().position(|pair| *key == pair.0)
 }
 
-/// Moves the pairs of a list to a map that has room for them.
+/// Moves the pairs of a list into a map that has room for them.
 fn fill<K: Eq + Hash + Drop, V: Drop>(map: &mut IndexMap<K, V>, list: Vec<(K, V)>)
     requires empty { map.old.entries ≡ [] }
     requires room { length list.items ≤ spare map.old }
@@ -117,7 +117,7 @@ impl<K: Eq + Hash, V> Room<K, V> {
 impl<K: Eq + Hash + Drop, V: Drop> Room<K, V> {
     ghost use Rattle.token_line.specs.inner.SmallMap.{pairs_in};
 
-    /// The last pair takes the place of the one that is there.
+    /// Removes the pair at a place; the last pair moves there.
     fn remove(&mut self, place: usize)
         requires { place < length (pairs_in self.old) }
         ensures { IfSome (slice_get (pairs_in self.old) place) (λ e. pairs_in self.new ≡ swap_remove (pairs_in self.old) place e) }
@@ -136,7 +136,7 @@ impl<K: Eq + Hash + Drop, V: Drop> Room<K, V> {
         }
     }
 
-    /// Makes a map of a list of as many pairs as `few` says. Where memory runs out, nothing has changed.
+    /// Turns a list of at least `few` pairs into a map. If memory runs out, nothing has changed.
     fn widen(&mut self, alloc: Global, few: usize) -> Result<(), OutOfMemory>
         requires { IsDistinct K.eq (keys_of (pairs_in self.old)) }
         ensures { pairs_in self.new ≡ pairs_in self.old }
@@ -152,7 +152,7 @@ impl<K: Eq + Hash + Drop, V: Drop> Room<K, V> {
         Ok(())
     }
 
-    /// Takes room for this many pairs more in a list.
+    /// Reserves room in a list for this many more pairs.
     fn reserve(&mut self, more: usize) -> Result<(), OutOfMemory>
         ensures { pairs_in self.new ≡ pairs_in self.old }
     {
@@ -162,7 +162,7 @@ impl<K: Eq + Hash + Drop, V: Drop> Room<K, V> {
         Ok(())
     }
 
-    /// Keeps a new pair after the others. For the first it takes room for one: most rooms have no more.
+    /// Appends a new pair. For the first pair it takes room for one: most maps never have another.
     fn push(&mut self, key: K, value: V) -> Result<(), OutOfMemory>
         requires { lookup (K.eq key) (pairs_in self.old) ≡ None }
         ensures ok { OnOk result (pairs_in self.new ≡ pairs_in self.old ++ (key, value) ∷ []) }
@@ -203,7 +203,7 @@ impl<K: Eq + Hash, V> SmallMap<K, V> {
         self.room.len()
     }
 
-    /// Takes no memory.
+    /// Whether there are none. Takes no memory.
     pub(crate) fn is_empty(&self) -> bool
         ensures { IsTrue result ↔ (self.now ≡ []) }
     {
@@ -218,8 +218,7 @@ impl<K: Eq + Hash, V> SmallMap<K, V> {
         self.room.pair(place)
     }
 
-    /// The place of a key. It compares the key with each where they are few, and hashes it where they are many. Takes
-    /// no memory.
+    /// The place of a key. It scans the keys if they are few, and hashes the key if they are many. Takes no memory.
     #[inline(always)]
     pub(crate) fn find(&self, key: &K) -> Option<usize>
         ensures { result ≡ position (K.eq key.now) (keys_of self.now) }
@@ -227,7 +226,7 @@ impl<K: Eq + Hash, V> SmallMap<K, V> {
         self.room.find(key)
     }
 
-    /// The value of a key, none where it is not there, at the cost of `find`. Takes no memory.
+    /// The value of a key, or none if it is not there, at the cost of `find`. Takes no memory.
     pub(crate) fn get(&self, key: &K) -> Option<&V>
         ensures { option_copied result ≡ lookup (K.eq key.now) self.now }
     {
@@ -248,7 +247,7 @@ impl<K: Eq + Hash, V> SmallMap<K, V> {
 }
 
 impl<K: Eq + Hash + Drop, V: Drop> SmallMap<K, V> {
-    /// The last pair takes the place of the one that is there. Takes no memory.
+    /// Removes the pair at a place; the last pair moves there. Takes no memory.
     pub(crate) fn remove(&mut self, place: usize)
         requires { place < length self.old }
         ensures pairs { IfSome (slice_get self.old place) (λ e. self.new ≡ swap_remove self.old place e) }
@@ -257,15 +256,14 @@ impl<K: Eq + Hash + Drop, V: Drop> SmallMap<K, V> {
         self.room.remove(place);
     }
 
-    /// Takes room for this many pairs more, where the pairs are few. Where memory runs out, nothing has changed.
+    /// Reserves room for this many more pairs, if the pairs are few. If memory runs out, nothing has changed.
     pub(crate) fn reserve(&mut self, more: usize) -> Result<(), OutOfMemory>
         ensures { self.new ≡ self.old }
     {
         self.room.reserve(more)
     }
 
-    /// Keeps a new pair after the others. The ninth makes a map of the list. Where memory runs out, nothing has
-    /// changed.
+    /// Appends a new pair. The ninth turns the list into a map. If memory runs out, nothing has changed.
     pub(crate) fn push(&mut self, alloc: Global, key: K, value: V) -> Result<(), OutOfMemory>
         requires { lookup (K.eq key) self.old ≡ None }
         ensures ok { OnOk result (self.new ≡ self.old ++ (key, value) ∷ []) }
@@ -274,7 +272,7 @@ impl<K: Eq + Hash + Drop, V: Drop> SmallMap<K, V> {
         self.push_within(alloc, FEW_PAIRS, key, value)
     }
 
-    /// The same, but that at most as many pairs as `few` says are kept as a list.
+    /// The same, except that at most `few` pairs are kept as a list.
     pub(crate) fn push_within(
         &mut self,
         alloc: Global,

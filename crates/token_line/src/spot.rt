@@ -10,8 +10,8 @@ use crate::tokens::TokenCount;
 use net_base::tags::Tags;
 use net_base::tasks::Side;
 
-/// Where a token is kept on a line: the place of its node, its code, its own place among the tokens with that code, and
-/// what is kept of it. It tells nothing once the line has changed.
+/// Where a token is kept on a line: the place of its node, its code, its own place among the tokens with that code,
+/// and what is kept of it. It is no longer valid once the line has changed.
 #[derive(Clone, Copy)]
 pub struct TokenPlace {
     pub(crate) node: Option<usize>,
@@ -20,7 +20,7 @@ pub struct TokenPlace {
     pub(crate) kept: Option<TokenCount>,
 }
 
-/// The sum of a token of which this is kept, 0 where nothing is.
+/// The sum of a token, given what is kept of it, or 0 if nothing is.
 pub(crate) fn sum_of(kept: Option<TokenCount>) -> i64
     ensures { result ≡ sum_kept kept }
 {
@@ -31,7 +31,7 @@ pub(crate) fn sum_of(kept: Option<TokenCount>) -> i64
 }
 
 impl TokenPlace {
-    /// The sum of the token, 0 where it is not kept. Takes no memory.
+    /// The sum of the token, or 0 if it is not kept. Takes no memory.
     pub fn sum(&self) -> i64
         ensures { result ≡ sum_kept self.now.kept }
     {
@@ -46,7 +46,7 @@ impl TokenPlace {
     }
 }
 
-/// The spot of a token at the place of a node, in the memory of its code, where there are such.
+/// The spot of a token, given the place of its node and the memory of its code, if there are such.
 #[inline(always)]
 pub(crate) fn spot_in(
     memory: Option<&CodeMemory>,

@@ -1,4 +1,4 @@
-//! Where the tokens of one side of a memory are held. At nearly every place all of them have one tag, or all have more.
+//! Storage for the tokens of one side of a memory. Nearly always all of them have one tag, or all have several.
 ghost use Rattle.std.specs.Prelude.{◌≡◌, ◌≢◌, ◌<◌, ◌==◌, ◌++◌, ◌∷◌, [], IfOk, IfSome, List, None, OnErr, OnOk, Some, bytes_eq, if◌then◌else◌, length, slice_get, ℕ};
 ghost use Rattle.std.specs.List.{IsDistinct, swap_remove};
 ghost use Rattle.std.specs.Map.{keys_of};
@@ -13,14 +13,14 @@ use ops_base::memory::OutOfMemory;
 use std::alloc::Global;
 use std::slice;
 
-/// How many tokens of one tag a list takes room for at first.
+/// The number of one-tag tokens for which a list takes room at first.
 const FIRST_ROOM: usize = 6;
 
-/// At most this many tokens of one tag are kept as a list: to look at all of them takes no longer than to hash one.
+/// At most this many one-tag tokens are kept as a list: scanning all of them takes no longer than hashing one.
 const FEW_TAGS: usize = 16;
 
-/// Tokens, each with its cell. One token of one tag stands by itself, which takes no memory, and more of these are kept
-/// by their tags. Where a token of another length comes to them, all are kept as longer tokens.
+/// Tokens, each with its cell. A single one-tag token is stored inline, which takes no memory, and several are kept
+/// by their tags. When a token of another length is added to them, all are kept as longer tokens.
 #[derive(Drop)]
 pub(crate) enum TokenRoom {
     One { tag: u64, cell: TokenCount },
@@ -28,7 +28,7 @@ pub(crate) enum TokenRoom {
     Longer(SmallMap<Tags, TokenCount>),
 }
 
-/// The tag of a token that has no other.
+/// The tag of a token that has exactly one.
 fn only_tag(token: &[u64]) -> Option<u64>
     ensures { result ≡ only_tag token.now }
 {
@@ -39,7 +39,7 @@ fn only_tag(token: &[u64]) -> Option<u64>
     }
 }
 
-/// The place of a token where the only one has this tag.
+/// The place of a token if the only token has this tag.
 fn place_by_tag(token: &[u64], tag: u64) -> Option<usize>
     ensures { result ≡ (if bytes_eq token.now (tag ∷ []) then Some 0 else None) }
 {
@@ -49,7 +49,7 @@ fn place_by_tag(token: &[u64], tag: u64) -> Option<usize>
     }
 }
 
-/// Two tokens of one tag, in a list with room for some more.
+/// Two one-tag tokens, in a list with room for some more.
 fn both(
     alloc: Global,
     first: u64,
@@ -127,7 +127,7 @@ impl TokenRoom {
         }
     }
 
-    /// The last token takes the place of the one that is there.
+    /// Removes the token at a place; the last token moves there.
     pub(crate) fn remove(&mut self, alloc: Global, place: usize)
         requires { place < length (tokens_in self.old) }
         ensures { IfSome (slice_get (tokens_in self.old) place) (λ e. tokens_in self.new ≡ swap_remove (tokens_in self.old) place e) }
@@ -152,7 +152,7 @@ impl TokenRoom {
         Ok(longer)
     }
 
-    /// Keeps a new token of this one tag after the others. Where memory runs out, nothing has changed.
+    /// Appends a new token with this one tag. If memory runs out, nothing has changed.
     fn push_tag(&mut self, alloc: Global, tag: u64, cell: TokenCount) -> Result<(), OutOfMemory>
         requires { cell_of (tokens_in self.old) (tag ∷ []) ≡ None }
         ensures ok { OnOk result (tokens_in self.new ≡ tokens_in self.old ++ (tag ∷ [], cell) ∷ []) }
@@ -182,7 +182,7 @@ impl TokenRoom {
         }
     }
 
-    /// Keeps a new token after the others, as a longer one. Where memory runs out, nothing has changed.
+    /// Appends a new token, as a longer one. If memory runs out, nothing has changed.
     fn push_longer(
         &mut self,
         alloc: Global,
@@ -204,8 +204,8 @@ impl TokenRoom {
         Ok(())
     }
 
-    /// Keeps a new token after the others. The second takes memory, and the ninth makes a map of the list. Where memory
-    /// runs out, nothing has changed.
+    /// Appends a new token. The second one takes memory. The list becomes a map with the seventeenth token if each has
+    /// one tag, and with the ninth if some are longer. If memory runs out, nothing has changed.
     pub(crate) fn push(
         &mut self,
         alloc: Global,

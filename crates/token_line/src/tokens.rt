@@ -18,9 +18,9 @@ use std::alloc::Global;
 use std::marker::Model;
 use work_store::Store;
 
-/// What is kept of a token: its sum, and a number of blockers. With a left token of a negated node or a group that is
-/// how often right tokens stand that go with it, which is for the caller to see to. With other tokens nothing goes by
-/// it.
+/// What is kept of a token: its sum, and a number of blockers. With a left token of a negated node or a group, the
+/// latter is the number of right tokens, by effective count, that go with it; keeping it right is up to the caller.
+/// With other tokens it has no meaning.
 #[derive(Clone, Copy, Debug, PartialEq, Eq)]
 pub struct TokenCount {
     pub sum: i64,
@@ -47,7 +47,7 @@ impl Model for Tokens {
     ghost invariant = { λ c. ArePairs (tokens_in c.room) };
 }
 
-/// One more, or one less, if there is one.
+/// The count plus or minus one; 0 stays 0 when one is taken away.
 fn counted(count: u64, plus: bool) -> u64
     requires { plus ≡ true → count < 2 ^ 64 - 1 }
     ensures { result ≡ counted plus count }
@@ -77,7 +77,7 @@ impl Tokens {
         self.room.len()
     }
 
-    /// Takes no memory.
+    /// Whether there are none. Takes no memory.
     pub fn is_empty(&self) -> bool
         ensures { IsTrue result ↔ (self.now ≡ []) }
     {
@@ -93,8 +93,8 @@ impl Tokens {
         self.room.pair(place)
     }
 
-    /// The place of a token. It compares the token with each where they are few, and hashes it where they are many.
-    /// Takes no memory.
+    /// The place of a token. It scans the tokens if they are few, and hashes the token if they are many. Takes no
+    /// memory.
     #[inline(always)]
     pub fn find(&self, token: &Tags) -> Option<usize>
         ensures { result ≡ place_of self.now token.now }
@@ -102,7 +102,7 @@ impl Tokens {
         self.room.find(token)
     }
 
-    /// What is kept of a token that has this place. Takes no memory.
+    /// What is kept of a token, given its place. Takes no memory.
     pub(crate) fn kept(&self, token: &Tags, place: Option<usize>) -> Option<TokenCount>
         requires { place ≡ place_of self.now token.now }
         ensures { result ≡ cell_of self.now token.now }
@@ -115,7 +115,7 @@ impl Tokens {
         }
     }
 
-    /// Keeps something else of the token at a place. Takes no memory.
+    /// Replaces what is kept of the token at a place. Takes no memory.
     pub(crate) fn set(&mut self, place: usize, cell: TokenCount)
         requires within { place < length self.old }
         requires some { cell.sum ≢ pos 0 }
@@ -124,7 +124,7 @@ impl Tokens {
         self.room.set(place, cell);
     }
 
-    /// The last token takes the place of the one that is there. Takes no memory.
+    /// Removes the token at a place; the last token moves there. Takes no memory.
     pub(crate) fn remove(&mut self, alloc: Global, place: usize)
         requires { place < length self.old }
         ensures { IfSome (slice_get self.old place) (λ e. self.new ≡ swap_remove self.old place e) }
@@ -132,8 +132,8 @@ impl Tokens {
         self.room.remove(alloc, place);
     }
 
-    /// Keeps a new token after the others. The first takes no memory if it has one tag, and later ones take it now and
-    /// then. Where memory runs out, nothing has changed.
+    /// Appends a new token. The first takes no memory if it has one tag, and later ones take it now and then. If
+    /// memory runs out, nothing has changed.
     pub(crate) fn push(
         &mut self,
         alloc: Global,
@@ -148,7 +148,7 @@ impl Tokens {
         self.room.push(alloc, token, cell)
     }
 
-    /// Keeps something else of a token that has this place, or keeps it no more. Where memory runs out, nothing has
+    /// Replaces what is kept of a token with this place, or stops keeping it. If memory runs out, nothing has
     /// changed.
     #[inline(always)]
     pub(crate) fn put(
@@ -177,7 +177,7 @@ impl Tokens {
         Ok(())
     }
 
-    /// One right token more, or one less, for the left token at a place, if it goes with that.
+    /// Adds or removes one blocker at the left token at a place, if the right token goes with it.
     fn block_at(&mut self, place: usize, store: &Store, of: &Node, right: &[u64], plus: bool)
         requires within { place < length self.old }
         requires room { plus ≡ true → IfSome (slice_get self.old place) (λ e. e.1.blockers < 2 ^ 64 - 1) }
@@ -193,7 +193,7 @@ impl Tokens {
         self.set(place, TokenCount { sum, blockers });
     }
 
-    /// One right token more, or one less, for each left token that it goes with. Takes no memory.
+    /// Adds or removes one blocker at each left token that the right token goes with. Takes no memory.
     pub(crate) fn block(&mut self, store: &Store, of: &Node, right: &[u64], plus: bool)
         requires room { plus ≡ true → (t : List ℕ) → kept_sum self.old t ≢ pos 0 → blockers_of self.old t < 2 ^ 64 - 1 }
         ensures { (t : List ℕ) → cell_of self.new t ≡ option_map (blocked (goes_with of.now.kind of.now.joins (held_of store.now) t right.now) plus) (cell_of self.old t) }

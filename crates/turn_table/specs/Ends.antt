@@ -8,11 +8,12 @@ use Rattle.turn_table.specs.declared.views.View.{View}
 use Rattle.turn_table.specs.Log.{IsAt, Begins, IsRow, given_to, rows_of, signed_by, weigh, sum_below}
 
 module _ {X E N : Type 0} (entries : X → List E) (name : X → N) (signature : E → Option ℕ) where
-  -- The log accounts for the last values, by what the first pass knows.
-  -- Each cell has the entries with which it began, and then those that were given to it: one row of the log for each,
-  -- and no others. The rows of a pass are what it made itself, and a number without a pass has none. However rows are
-  -- weighed, those of the passes weigh together what the log weighs. Each list that a pass saw begins the last one, and
-  -- just its own entries are signed with its number.
+  -- The log accounts for the last values, given what the first pass knows.
+  -- Each cell has the entries that it began with, followed by those that were given to it: one row of the log for
+  -- each, and no others. The rows of a pass are those that it gave itself, and a number without a pass has no rows.
+  -- For every weighting of rows, the weights of the rows of all passes add up to the weight of the log. Each list
+  -- that a pass saw in a cell is a prefix of the cell's last list. The entries of a last list that are signed with a
+  -- pass's number are exactly those so signed among the entries that the pass gave to the cell.
   pub record Accounts (v : View X E) (lasts : List X) (log : List (Row E)) : Type 0 where
     pub count : length lasts ≡ length v.values
     pub cells : (cell : ℕ) (first : X) → IsAt v.values cell first

@@ -1,4 +1,4 @@
--- What the contracts of cells, passes and turns say.
+-- What the contracts of cells, passes and turns state.
 pub mod Log
 pub mod Views
 pub mod Rule

@@ -1,4 +1,5 @@
--- The log: a row for each entry that was given, in one order, which is also the order of each cell and of each pass.
+-- The log: one row for each entry that was given, in one order, which agrees with the order of each cell and of each
+-- pass.
 use Rattle.std.specs.Prelude.{◌≡◌, ℕ, zero, suc, ◌+◌, ◌<◌, ◌⊎◌, Bool, false, List, [], ◌∷◌, ◌++◌, Option, Some, None, map, filter, ◌==◌}
 use mathlib.Core.Option.{some}
 use lib.ListN.{get_elem?}
@@ -8,7 +9,7 @@ use Rattle.turn_table.specs.declared.views.Row.{Row}
 abbrev pub IsAt : {A : Type 0} → List A → ℕ → A → Type 0
 IsAt list place item = get_elem? list place ≡ some item
 
--- the first list begins the second
+-- the first list is a prefix of the second
 abbrev pub Begins : {A : Type 0} → List A → List A → Type 0
 Begins {A} short long = (rest : List A) × (short ++ rest ≡ long)
 
@@ -25,7 +26,7 @@ module _ {E : Type 0} where
   abbrev pub as_rows : ℕ → ℕ → List E → List (Row E)
   as_rows pass cell entries = map (λ (e : E). record { pass = pass; cell = cell; entry = e }) entries
 
-  -- an entry that this pass makes is not signed, or it is signed with the number of the pass
+  -- an entry that this pass makes is unsigned, or is signed with the number of the pass
   abbrev pub MaySign : (E → Option ℕ) → ℕ → E → Type 0
   MaySign signature pass entry = (signature entry ≡ None) ⊎ (signature entry ≡ Some pass)
 
@@ -41,12 +42,12 @@ module _ {E : Type 0} where
     pub inside : r.cell < cells
     pub may_sign : MaySign signature r.pass r.entry
 
--- the weights of the items, added up
+-- the sum of the weights of the items
 abbrev pub weigh : {A : Type 0} → (A → ℕ) → List A → ℕ
 weigh weight [] = 0
 weigh weight (x ∷ xs) = weight x + weigh weight xs
 
--- f of 0, of 1, and so on below the bound, added up
+-- the sum of f of each number below the bound
 abbrev pub sum_below : ℕ → (ℕ → ℕ) → ℕ
 sum_below zero f = 0
 sum_below (suc bound) f = sum_below bound f + f bound

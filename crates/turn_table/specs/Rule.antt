@@ -1,4 +1,4 @@
--- The rule that the cells keep between any two steps. It is said of one cell at a time and of one pass at a time.
+-- The rule that the cells keep between any two steps. It is stated for one cell at a time and for one pass at a time.
 use Rattle.std.specs.Prelude.{◌≡◌, ℕ, ◌+◌, ◌*◌, ◌≤◌, ◌⊎◌, true, false, List, [], ◌∷◌, ◌++◌, Option, Some, None, length, slice_index, if◌then◌else◌}
 use Rattle.std.specs.List.{All}
 use mathlib.Core.Option.{some}
@@ -16,7 +16,7 @@ module _ {X E : Type 0} (entries : X → List E) where
   abbrev pub list_of : List (Row E) → ℕ → X → List E
   list_of log cell first = entries first ++ given_to cell log
 
-  -- the list that was seen in a cell begins the cell's list now
+  -- the list that was seen in a cell is a prefix of the cell's list now
   abbrev pub IsSeen : List X → List (Row E) → Sight E → Type 0
   IsSeen values log sight = (first : X) × IsAt values sight.cell first × Begins sight.list (list_of log sight.cell first)
 
@@ -47,12 +47,12 @@ module _ {X E : Type 0} where
     pub splits : length views ≡ view.splits + 1
     pub apart : count_in_use views ≡ view.apart + 1
 
-  -- two passes that hold one cell are one
+  -- any two passes that hold the same cell are the same pass
   abbrev pub OneHolds : List (View X E) → Type 0
   OneHolds views = (cell p q : ℕ) (v w : View X E) (a b : X) → IsAt views p v → IsAt views q w
       → v.held ≡ Some record { cell = cell; value = a } → w.held ≡ Some record { cell = cell; value = b } → p ≡ q
 
-  -- a pass that has read the log knows it whole, and is the first and the only one
+  -- a pass that has read the log knows all of it, and is the first and the only one
   abbrev pub Ended : List (Row E) → List (View X E) → Type 0
   Ended log views = (p : ℕ) (v : View X E) → IsAt views p v → v.ended ≡ true
       → (v.log ≡ log) × (p ≡ 0) × (count_in_use views ≡ 1)
@@ -74,7 +74,7 @@ module _ {X E N : Type 0} (entries : X → List E) (name : X → N) where
     pub list : entries was ≡ list_of entries log cell first
     pub same_name : name was ≡ name first
 
-  -- what a pass in use knows is so
+  -- what a pass in use knows is true
   pub record KnowsTruly (values : List X) (log : List (Row E)) (words : List ℕ) (views : List (View X E)) (pass : ℕ) (v : View X E) : Type 0 where
     pub same_values : v.values ≡ values
     pub same_number : v.number ≡ pass
@@ -83,7 +83,7 @@ module _ {X E N : Type 0} (entries : X → List E) (name : X → N) where
     pub joined : All (IsJoined log views) v.joined
     pub seen : All (IsSeen entries values log) v.seen
 
-  -- The cells began with these values, and one log accounts for all that was given since
+  -- The cells began with these values, and one log accounts for everything that was given since
   pub record Keeps (signature : E → Option ℕ) (values : List X) (s : State (Option X) (View X E)) : Type 0 where
     pub log : List (Row E)
     pub words : length s.words ≡ length values

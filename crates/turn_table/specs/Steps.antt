@@ -1,4 +1,4 @@
--- What each step tells the pass that makes it.
+-- What the pass that makes a step learns from it.
 use Rattle.std.specs.Prelude.{◌≡◌, ◌≢◌, ℕ, ◌*◌, List, [], ◌∷◌, Option, Some, length}
 use Rattle.std.specs.List.{All}
 use Rattle.atomic_table.specs.Table.{Me, Step}
@@ -9,8 +9,8 @@ use Rattle.turn_table.specs.Views.{after_claim, after_turn, after_read}
 
 module _ {X E N : Type 0} (entries : X → List E) (name : X → N) (signature : E → Option ℕ) where
   -- What a pass finds in a cell: a value with the name of the first one.
-  -- Its entries go on from those of the first one, and from each list that the pass saw there.
-  -- The entries in it that are signed with the number of the pass are just those that the pass itself made there.
+  -- Its entries extend those of the first one, and each list that the pass saw there. The entries in it that are
+  -- signed with the number of the pass are exactly the signed ones that the pass itself gave there.
   pub record Comes (v : View X E) (cell : ℕ) (value : X) : Type 0 where
     pub first : X
     pub begins : IsAt v.values cell first
@@ -27,14 +27,14 @@ module _ {X E N : Type 0} (entries : X → List E) (name : X → N) (signature :
     pub counts : word ≡ 2 * length (entries value)
     pub comes : Comes before.0 cell value
 
-  -- the pass takes the cell where the word is the one that it tries, and else nothing changes
+  -- the pass takes the cell if its word is the expected one; otherwise nothing changes
   abbrev pub Tries : Step (Option X) → Me (Option X) (View X E) → ℕ → Me (Option X) (View X E) → Type 0
   Tries try before found after =
       (found ≡ try.first → Takes try.word found before after)
       × (found ≢ try.first → after ≡ before)
 
 module _ {X E : Type 0} where
-  -- the pass lets go of the cell that it holds, with the value that it put into the slot
+  -- the pass releases the cell that it holds, with the value that it put into the slot
   abbrev pub LetsGo : (X → List E) → Me (Option X) (View X E) → Me (Option X) (View X E) → Type 0
   LetsGo entries before after = (cell : ℕ) (was value : X)
       → before.0.held ≡ Some record { cell = cell; value = was } → before.1 ≡ (cell, Some value) ∷ []

@@ -1,4 +1,4 @@
--- What clauses say of cells, passes and turns.
+-- What clauses state about cells, passes and turns.
 use Rattle.std.specs.Prelude.{◌≡◌, ℕ, ◌*◌, ◌<◌, ◌≤◌, List, [], ◌∷◌, true, false, Option, Some, None, length}
 use Rattle.atomic_table.specs.Seated.{TableId}
 use Rattle.atomic_table.specs.declared.shared.Seat.{Seat}
@@ -11,7 +11,7 @@ use Rattle.turn_table.specs.declared.views.Row.{Row}
 use Rattle.turn_table.specs.declared.views.View.{View}
 
 module _ {X E : Type 0} where
-  -- a seat at this table, of a pass in use that counts so
+  -- a seat at this table, of a pass in use with these counts
   pub record Sits (table : TableId) (values : List X) (seat : Seat (Option X) (View X E)) (counts : Counts) : Type 0 where
     pub at_table : seat.table_id ≡ table
     pub in_use : seat.me.0.in_use ≡ true
@@ -23,7 +23,7 @@ module _ {X E : Type 0} where
     pub no_more_apart : counts.apart ≤ counts.splits
 
   module _ (entries : X → List E) (table : TableId) (values : List X) where
-    -- a seat at this table, of a pass that holds the cell, where it found this value under this word
+    -- a seat at this table, of a pass that holds the cell, in which it found this value and this word
     pub record SitsOut (seat : Seat (Option X) (View X E)) (counts : Counts) (cell word : ℕ) (was : X) : Type 0 where
       pub sits : Sits table values seat counts
       pub slot : seat.me.1 ≡ (cell, None) ∷ []
@@ -38,7 +38,7 @@ module _ {X E : Type 0} where
     pub holds_nothing : v.held ≡ None
 
 module _ {X E N : Type 0} where
-  -- the values with which the cells began
+  -- the values that the cells began with
   abbrev pub first_values : Cells X E N → List X
   first_values cells = cells.table.shared.key.value.items
 
@@ -53,7 +53,7 @@ module _ {X E N : Type 0} where
   abbrev pub splits : Pass X E N → ℕ
   splits pass = pass.counts.splits
 
-  -- how many of those were not joined
+  -- how many of those have not been joined
   abbrev pub split_off : Pass X E N → ℕ
   split_off pass = pass.counts.apart
 

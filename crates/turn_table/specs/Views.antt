@@ -29,11 +29,12 @@ module _ {X E : Type 0} where
   abbrev pub after_look : (X → List E) → View X E → ℕ → X → View X E
   after_look entries v cell value = record v { seen = v.seen ++ record { cell = cell; list = entries value } ∷ [] }
 
-  -- it holds the cell, where it found this value
+  -- it holds the cell, in which it found this value
   abbrev pub after_claim : (X → List E) → View X E → ℕ → X → View X E
   after_claim entries v cell value = record (after_look entries v cell value) { held = Some record { cell = cell; value = value } }
 
-  -- it has let go of the cell, with the second value in place of the first: what that stores beyond the first is its own
+  -- it has released the cell, with the second value in place of the first: the entries added to those of the first
+  -- are its own
   abbrev pub after_turn : (X → List E) → View X E → ℕ → X → X → View X E
   after_turn entries v cell was value = record (after_look entries v cell value) {
     held = None;
@@ -48,7 +49,7 @@ module _ {X E : Type 0} where
   abbrev pub newborn : View X E → View X E
   newborn v = record (opened v.values) { number = v.splits + 1 }
 
-  -- it took over what the other made and saw
+  -- it took over what the other pass gave and saw
   abbrev pub after_join : View X E → View X E → View X E
   after_join v other = record v {
     apart = v.apart - 1;

@@ -8,7 +8,7 @@ use std::alloc::Global;
 use std::marker::PhantomData;
 use std::snapshot::Snapshot;
 
-/// The rule of the cells, as the table beneath them knows it.
+/// The rule of the cells, in the form in which the underlying table knows it.
 pub struct LogRule<T> {
     marker: PhantomData<T>,
 }
@@ -22,10 +22,11 @@ impl<T: Kept> TableRule<Option<T>, View<T, T::Entry>, Snapshot<Vec<T>>> for LogR
     ghost first = { λ first. opened first.value.items };
 }
 
-/// Values behind turns. Any number of threads may share them by reference, each with a pass of its own.
+/// Values that threads change one at a time, in turns. Any number of threads may share them by reference, each with a
+/// pass of its own.
 #[derive(Drop)]
 pub struct Cells<T: Kept> {
-    // A cell has a word and a slot. The word is twice the number of entries, and one more while a pass holds the cell.
+    // A cell has a word and a slot. The word is twice the number of entries, plus one while a pass holds the cell.
     pub(crate) table: Table<Option<T>, View<T, T::Entry>, Snapshot<Vec<T>>, LogRule<T>, Global>,
     pub(crate) alloc: Global,
     ghost words: { table.shared.table_id.words ≡ length table.shared.key.value.items },

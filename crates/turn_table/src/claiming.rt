@@ -17,7 +17,7 @@ use std::snapshot::Snapshot;
 use std::sync::Wait;
 
 impl<T: Kept> Cells<T> {
-    // Takes the cell where its value is home, and answers its word then.
+    // Takes the cell if its value is home, and then returns its word.
     fn try_claim(&self, seat: &mut Seat<Option<T>, View<T, T::Entry>>, cell: usize) -> Option<u64>
         requires table { seat.old.table_id ≡ self.now.table.shared.table_id }
         requires cell { cell < length (first_values self.now) }
@@ -37,7 +37,7 @@ impl<T: Kept> Cells<T> {
         if found == word { Some(word) } else { None }
     }
 
-    // Tries until it has the cell, and answers its word.
+    // Tries until it has the cell, and returns its word.
     fn take_cell<R: Wait>(
         &self,
         rt: &R,
@@ -60,9 +60,9 @@ impl<T: Kept> Cells<T> {
         unreachable!()
     }
 
-    /// Waits until the cell's value is home, and takes it. Where it is home and no other pass claims it at that moment,
-    /// this takes two atomic steps; each further try takes one or two. It takes no memory. Nothing is promised of how
-    /// long it waits: passes are served in no order, and one may wait for ever.
+    /// Waits until the cell's value is home, and takes it. If it is home and no other pass claims it at that moment,
+    /// this takes two atomic steps; each further try takes one or two. It takes no memory. Nothing is promised about
+    /// how long it waits: passes are served in no order, and one may wait for ever.
     pub fn claim<R: Wait>(&self, rt: &R, pass: Pass<T>, cell: usize) -> Turn<T>
         requires pass { IsPassOf self.now pass }
         requires cell { cell < length (first_values self.now) }

@@ -15,20 +15,20 @@ use ops_base::memory::OutOfMemory;
 use std::alloc::Global;
 use std::snapshot::Snapshot;
 
-/// All that was given to cells, a row for each entry. Contracts alone can see it: it has no bytes.
+/// Everything that was given to cells, one row for each entry. Only contracts can see it: it has no bytes.
 #[derive(Drop)]
 pub struct MadeLog<T: Kept> {
     pub(crate) seat: Snapshot<Seat<Option<T>, View<T, T::Entry>>>,
 }
 
-/// The values at the end, and the log of all that was given.
+/// The values at the end, and the log of everything that was given.
 #[derive(Drop)]
 pub struct Closed<T: Kept> {
     pub cells: Vec<T>,
     pub made: MadeLog<T>,
 }
 
-// Takes the values out of their slots, into a list that has the room.
+// Takes the values out of their slots, into a list that has room for them.
 fn taken<T: Kept>(mut closed: ClosedTable<Option<T>, Global>, mut cells: Vec<T>) -> Vec<T>
     requires full { IsFull closed.slots }
     requires home { (cell : ℕ) → cell < slots_len closed.slots → (value : T) × IsAt (slots_items closed.slots) cell (Some value) }
@@ -48,8 +48,8 @@ fn taken<T: Kept>(mut closed: ClosedTable<Option<T>, Global>, mut cells: Vec<T>)
 }
 
 impl<T: Kept> Cells<T> {
-    /// The values, once each other pass was joined, and the log of all that was given. Where memory runs out the cells
-    /// and the pass come back as they were.
+    /// The values, once each other pass was joined, and the log of everything that was given. If memory runs out, the
+    /// cells and the pass are returned as they were.
     pub fn close(self, pass: Pass<T>) -> Result<Closed<T>, (Cells<T>, Pass<T>, OutOfMemory)>
         requires first { IsFirstOf self pass }
         requires all_joined { split_off pass ≡ 0 }

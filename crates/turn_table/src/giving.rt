@@ -1,4 +1,4 @@
-//! Letting go of a cell, with an entry more or with none.
+//! Releasing a cell, with or without a new entry.
 ghost use Rattle.std.specs.Prelude.{◌≡◌, ◌+◌, ◌*◌, ◌^◌, ◌<◌, ◌++◌, List, [], ◌∷◌, length};
 ghost use Rattle.std.specs.List.{All};
 ghost use Rattle.turn_table.specs.Log.{MaySign};
@@ -12,7 +12,7 @@ use crate::plays::LetGo;
 use crate::turns::Turn;
 
 impl<T: Kept> Cells<T> {
-    // Puts the value home and leaves this word.
+    // Puts the value home and stores this word.
     fn let_go(&self, turn: Turn<T>, word: u64) -> Pass<T>
         requires turn { IsTurnOf T.entries self.now turn }
         requires name { T.name (value turn) ≡ T.name (claimed_value turn) }
@@ -37,7 +37,7 @@ impl<T: Kept> Cells<T> {
         Pass { seat, counts }
     }
 
-    /// Gives the value back to its cell with one entry more, which stands in the log from then on. It takes one atomic
+    /// Gives the value back to its cell with one more entry, which is in the log from then on. It takes one atomic
     /// step and no memory.
     pub fn give(&self, turn: Turn<T>) -> Pass<T>
         requires turn { IsTurnOf T.entries self.now turn }
@@ -53,8 +53,8 @@ impl<T: Kept> Cells<T> {
         self.let_go(turn, word)
     }
 
-    /// Gives the value back to its cell with the entries that it had, and nothing stands in the log for it. It takes
-    /// one atomic step and no memory.
+    /// Gives the value back to its cell with the entries that it had; nothing is added to the log. It takes one
+    /// atomic step and no memory.
     pub fn give_back(&self, turn: Turn<T>) -> Pass<T>
         requires turn { IsTurnOf T.entries self.now turn }
         requires name { T.name (value turn) ≡ T.name (claimed_value turn) }

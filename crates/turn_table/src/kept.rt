@@ -1,12 +1,12 @@
-//! What a value in a cell stands for.
+//! What a value in a cell provides.
 ghost use Rattle.std.specs.Prelude.{◌≡◌, ℕ, List, Option, length};
 
-/// A value that can stand in a cell: it stores a list of entries, and has a name that no turn changes. It is `Drop`
-/// since `Cells::new` lets the values go where memory runs out.
+/// A value that can be in a cell: it stores a list of entries, and has a name that no turn changes. It is `Drop`
+/// since `Cells::new` drops the values if memory runs out.
 pub trait Kept: Drop {
     type Entry;
 
-    /// Plain data that tells what the value is, as the number of a line.
+    /// Plain data that identifies the value, such as the number of a line.
     type Name;
 
     // The entries that it stores, in order.

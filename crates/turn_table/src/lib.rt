@@ -1,5 +1,5 @@
-//! Values behind turns: each cell has a value that one pass at a time may change, and all that was given to cells makes
-//! up one log.
+//! Values that are changed in turns: each cell has a value that one pass at a time may change, and everything that
+//! was given to cells forms one log.
 #![tactic(auto)]
 
 mod cells;

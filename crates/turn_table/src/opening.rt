@@ -1,4 +1,4 @@
-//! How cells begin.
+//! How cells are made.
 ghost use Rattle.std.specs.Prelude.{◌≡◌, ℕ, ◌*◌, ◌^◌, ◌<◌, map, length, slice_index, vec_len, Some, None, IfOk};
 ghost use Rattle.std.specs.List.{All};
 ghost use Rattle.turn_table.specs.Log.{IsAt};
@@ -35,7 +35,7 @@ fn slots_of<T: Kept>(alloc: Global, values: Vec<T>) -> Result<Vec<Option<T>>, Ou
 }
 
 impl<T: Kept> Cells<T> {
-    /// Cells with these values, and the first pass. Where memory runs out the values are let go.
+    /// Cells with these values, and the first pass. If memory runs out, the values are dropped.
     pub fn new(alloc: Global, values: Vec<T>) -> Result<(Cells<T>, Pass<T>), OutOfMemory>
         requires some { 0 < vec_len values }
         requires unsigned { All (λ value. All (λ entry. T.signature entry ≡ None) (T.entries value)) values.items }

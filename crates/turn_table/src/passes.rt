@@ -9,7 +9,7 @@ use crate::plays::Part;
 use crate::views::View;
 use atomic_table::Seat;
 
-/// What a pass counts.
+/// The counts of a pass.
 #[derive(Clone, Copy)]
 pub struct Counts {
     pub(crate) number: usize,
@@ -17,7 +17,7 @@ pub struct Counts {
     pub(crate) apart: usize,
 }
 
-/// What a thread claims cells with. It can move to another thread.
+/// What a thread needs to claim cells. It can move to another thread.
 #[derive(Drop)]
 pub struct Pass<T: Kept> {
     pub(crate) seat: Seat<Option<T>, View<T, T::Entry>>,
@@ -50,7 +50,7 @@ impl<T: Kept> Cells<T> {
         }
     }
 
-    /// The first pass takes over what the other made and saw. It takes one atomic step and no memory.
+    /// The first pass takes over what the other pass gave and saw. It takes one atomic step and no memory.
     pub fn join(&self, first: &mut Pass<T>, pass: Pass<T>)
         requires first { IsFirstOf self.now first.old }
         requires pass { IsPassOf self.now pass }
@@ -66,14 +66,14 @@ impl<T: Kept> Cells<T> {
 }
 
 impl<T: Kept> Pass<T> {
-    /// 0 for the first pass, and else how many passes had been split when this one was, itself among them.
+    /// 0 for the first pass; otherwise the number of passes that had been split off by then, this one included.
     pub fn number(&self) -> usize
         ensures { result ≡ number self.now }
     {
         self.counts.number
     }
 
-    /// How many passes were split from it and not joined.
+    /// How many passes were split from it and are not joined.
     pub fn split_off(&self) -> usize
         ensures { result ≡ split_off self.now }
     {

@@ -1,4 +1,4 @@
-//! What each atomic step tells the pass that makes it. Proofs alone need these types.
+//! What the pass that makes an atomic step learns from it. Only proofs need these types.
 ghost use Rattle.turn_table.specs.Views.{after_split, newborn, after_join, spent};
 ghost use Rattle.turn_table.specs.Steps.{Tries, LetsGo, Reads};
 

@@ -1,4 +1,4 @@
-//! Tallies behind turns, first with one pass and then with two threads.
+//! Tallies that are changed in turns, first with one pass and then with two threads.
 ghost use Rattle.std.specs.Prelude.{◌≡◌, ◌<◌, IfOk, length, vec_len, None};
 ghost use Rattle.turn_table.specs.Turns.{IsPassOf, IsFirstOf, first_values, number, splits, split_off};
 
@@ -9,7 +9,7 @@ use std::sync::Wait;
 use std::test::Fail;
 use std::thread::{Threads, join};
 
-/// A list of numbers, all of them entries.
+/// A list of numbers, all of which are entries.
 #[derive(Drop)]
 struct Tally {
     entries: Vec<u64>,
@@ -39,7 +39,7 @@ fn empty_tally(alloc: Global) -> Tally
     }
 }
 
-// gives the entry, or gives the cell back where there is no memory for it
+// gives the entry, or gives the cell back unchanged if there is not enough memory for the entry
 fn add<R: Wait>(
     rt: &R,
     cells: &Cells<Tally>,
@@ -59,7 +59,7 @@ fn add<R: Wait>(
     }
 }
 
-// gives a hundred entries to the first cell, from this one on
+// gives a hundred entries to the first cell, starting with this one
 fn add_hundred<R: Wait>(rt: &R, cells: &Cells<Tally>, pass: Pass<Tally>, from: u64) -> Pass<Tally>
     requires pass { IsPassOf cells.now pass }
     ensures pass { IsPassOf cells.now result }
@@ -94,7 +94,7 @@ fn add_in_two_threads<R: Threads + Wait + Sync>(
     )
 }
 
-// the tallies at the end of that
+// the tallies after that
 fn added_by_two<R: Threads + Wait + Sync>(
     rt: &R,
     alloc: Global,

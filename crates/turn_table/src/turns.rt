@@ -1,4 +1,4 @@
-//! A turn: a cell's value, out with the pass that holds the cell.
+//! A turn: a cell's value, in the hands of the pass that holds the cell.
 ghost use Rattle.std.specs.Prelude.{◌≡◌};
 ghost use Rattle.std.specs.Borrow.{Lends, sem};
 ghost use Rattle.turn_table.specs.contracts.turns.Turn.{the_row};
@@ -10,8 +10,8 @@ use crate::views::View;
 use atomic_table::Seat;
 use std::snapshot::Snapshot;
 
-/// A cell's value, out with the pass that holds the cell. It has to be given or given back: it is not `Drop`, so that
-/// code that forgets it is refused.
+/// A cell's value, in the hands of the pass that holds the cell. It has to be given or given back: it is not `Drop`,
+/// so code that forgets it is rejected.
 pub struct Turn<T: Kept> {
     pub(crate) seat: Seat<Option<T>, View<T, T::Entry>>,
     pub(crate) counts: Counts,
@@ -23,8 +23,8 @@ pub struct Turn<T: Kept> {
 }
 
 impl<T: Kept> Turn<T> {
-    /// The value, to be read and changed. An error in the midst of a change must not leave by `?`, since the turn has
-    /// to be given back first.
+    /// The value, for reading and changing. An error in the middle of a change must not leave by `?`, since the turn
+    /// has to be given back first.
     pub fn value(&mut self) -> &mut T
         ensures* writes_back { sem 𝓛 (Lends (the_row T.row T.Entry.row T.Name.row) T.row self.entry result (with_value self.old)) }
         ensures value { result.now ≡ value self.old }

@@ -1,4 +1,4 @@
-//! What a pass knows. Contracts alone speak of these types: no value of them is made.
+//! What a pass knows. Only contracts use these types: no value of them is ever made.
 
 use std::collections::LinkedList;
 
@@ -29,23 +29,23 @@ pub struct Held<T> {
 
 /// What a pass knows.
 pub struct View<T, E> {
-    /// The pass was not joined to the first one.
+    /// The pass has not been joined to the first one.
     pub in_use: bool,
-    /// The values with which the cells began.
+    /// The values that the cells began with.
     pub values: LinkedList<T>,
     pub number: usize,
     /// How many passes were split from it.
     pub splits: usize,
-    /// How many of those were not joined yet.
+    /// How many of those have not been joined yet.
     pub apart: usize,
     pub held: Option<Held<T>>,
-    /// What it made itself, in its order.
+    /// The rows that the pass gave itself, in order.
     pub own: LinkedList<Row<E>>,
-    /// What the passes made that it joined.
+    /// The rows that the passes gave that it joined.
     pub joined: LinkedList<Share<E>>,
-    /// The lists that it saw, and those that the passes saw that it joined.
+    /// The lists that it saw, and those that the passes it joined saw.
     pub seen: LinkedList<Sight<E>>,
-    /// The first pass has read the log, to which no pass adds any more.
+    /// The first pass has read the log, to which no pass can add any more.
     pub ended: bool,
     pub log: LinkedList<Row<E>>,
 }

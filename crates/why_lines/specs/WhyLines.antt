@@ -21,25 +21,25 @@ use Rattle.why.specs.Explaining.{explanation}
 use Rattle.why.specs.Partials.{parts_of}
 use Rattle.why_lines.specs.declared.spots.Spot.{Spot}
 
--- ---- where the values that an instantiation binds come from
+-- ---- the origin of the values that an instantiation binds
 
--- the fields whose values the tests of a condition put at variables, in text order
+-- the fields whose values the tests of a condition bind to variables, in text order
 abbrev pub fields_bound : List Test → List ℕ
 fields_bound [] = []
 fields_bound (t ∷ ts) = (if is_some (variable_of t) then t.field ∷ [] else []) ++ fields_bound ts
 
--- Those of a part, which is at this place. A negated condition and a group leave none.
+-- The spots of a part at this place. A negated condition and a group have none.
 abbrev pub spots_at : ℕ → Part → List Spot
 spots_at place (One c) =
     if c.negated then [] else map (λ f. record { place = place; class = c.class; field = f }) (fields_bound c.tests)
 spots_at place (Group cs) = []
 
--- those of these parts, of which the first is at this place
+-- the spots of these parts, the first of which is at this place
 abbrev pub spots_from : ℕ → List Part → List Spot
 spots_from place [] = []
 spots_from place (p ∷ ps) = spots_at place p ++ spots_from (place + 1) ps
 
--- those of a rule: places are counted from 1
+-- the spots of a rule: places are counted from 1
 abbrev pub spots_of : List Rule → ℕ → List Spot
 spots_of rules rule = spots_from 1 (parts_of rules rule)
 
@@ -48,7 +48,7 @@ spots_of rules rule = spots_from 1 (parts_of rules rule)
 abbrev pub attribute_of : Class → ℕ → Sym
 attribute_of c f = unwrap_or (slice_get c.attrs f) (record { 0 = 0 })
 
--- an attribute by its name, and a place of the vector attribute by the name, a slash and the place, counted from 1
+-- an attribute is given by its name; a place of the vector attribute by the name, a slash and the place, counted from 1
 abbrev pub field_text : Spellings → Class → ℕ → List ℕ
 field_text names c f =
     if c.vector && nat_le (scalar_count c) f
@@ -63,7 +63,7 @@ binding_text names classes s v =
 abbrev pub parting : Bool → List ℕ
 parting first = if first then [] else codes ";"
 
--- these bindings, with `;` between two
+-- these bindings, separated by `;`
 abbrev pub bindings_text : Spellings → List Class → Bool → List Spot → List Value → List ℕ
 bindings_text names classes first [] values = []
 bindings_text names classes first (s ∷ spots) [] = []
@@ -81,18 +81,18 @@ found_line names classes rules spots b =
 abbrev pub missing_line : Spellings → Sym → ℕ → List ℕ
 missing_line names name place = codes "why " ++ symbol_text names name ++ codes ": condition " ++ decimal place
 
--- a line for each instantiation of a rule, in their order, or one for what is missing
+-- a line for each instantiation of a rule, in their order, or one line for what is missing
 abbrev pub rule_lines : Spellings → List Class → List Rule → ℕ → Why → List (List ℕ)
 rule_lines names classes rules rule (Found found) = map (found_line names classes rules (spots_of rules rule)) found
 rule_lines names classes rules rule (Missing place) = missing_line names (rule_name rules rule) place ∷ []
 
--- those of this many rules, the first of which has this number
+-- the lines for this many rules, the first of which has this number
 abbrev pub lines_from : Spellings → List Class → List Rule → List Element → ℕ → List Rule → List (List ℕ)
 lines_from names classes rules wm rule [] = []
 lines_from names classes rules wm rule (r ∷ rs) =
     rule_lines names classes rules rule (explanation rules wm rule) ++ lines_from names classes rules wm (rule + 1) rs
 
--- those of all rules, in their order
+-- the lines for all rules, in their order
 abbrev pub why_lines : Spellings → List Class → List Rule → List Element → List (List ℕ)
 why_lines names classes rules wm = lines_from names classes rules wm 0 rules
 

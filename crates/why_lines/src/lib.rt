@@ -1,4 +1,4 @@
-//! The lines that explain the productions in force: what each fires on, or where its match ends.
+//! The lines that explain the productions in force: the instantiations of each, or where its match ends.
 #![tactic(auto)]
 
 mod lines;

@@ -1,4 +1,4 @@
-//! The lines of each production.
+//! The lines for each production.
 ghost use Rattle.std.specs.Prelude.{◌≡◌, ◌<◌, ◌∷◌, [], ◌++◌, OnOk, IfOk, length, map, Contains};
 ghost use Rattle.ops_base.specs.Instances.{IsInst};
 ghost use Rattle.ops_base.specs.WorkingMemory.{HasRisingTags, shown};
@@ -18,7 +18,7 @@ use ops_print::rule_name;
 use std::alloc::Global;
 use why::{BoundInst, Why, check, explain, parts_of};
 
-/// Adds the line of an instantiation and what it binds.
+/// Adds the line for an instantiation and the values that it binds.
 fn add_found(
     text: &mut Vec<u8>,
     names: &Names,
@@ -38,7 +38,7 @@ fn add_found(
     Ok(())
 }
 
-/// Adds the line of a production that nothing meets.
+/// Adds the line for a production without an instantiation.
 fn add_missing(
     text: &mut Vec<u8>,
     names: &Names,
@@ -55,7 +55,8 @@ fn add_missing(
     Ok(())
 }
 
-/// Adds the lines of instantiations, each once `check` has said that it is one and binds these values. It always does.
+/// Adds the lines for instantiations, each after `check` has confirmed that it is one and binds these values. `check`
+/// always confirms it.
 fn add_checked(
     text: &mut Vec<u8>,
     names: &Names,
@@ -78,7 +79,7 @@ fn add_checked(
     Ok(())
 }
 
-/// Adds the lines of a production.
+/// Adds the lines for a production.
 fn add_rule(
     alloc: Global,
     text: &mut Vec<u8>,
@@ -104,8 +105,8 @@ fn add_rule(
     }
 }
 
-/// The lines that explain the productions, each with its LF. It explains one production after the other (`explain`), and
-/// holds the text of all.
+/// The lines that explain the productions, each with its LF. It explains one production after another (by `explain`),
+/// and holds the text of all in memory.
 pub(crate) fn why_text(
     alloc: Global,
     names: &Names,

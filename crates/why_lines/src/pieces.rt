@@ -36,7 +36,7 @@ fn is_plain_symbol(spelling: &[u8]) -> bool
     }
 }
 
-/// Adds a symbol as a program names it: between bars where it is not plain.
+/// Adds a symbol as a program names it: between bars if it is not plain.
 pub(crate) fn add_symbol(text: &mut Vec<u8>, names: &Names, item: Sym) -> Result<(), OutOfMemory>
     ensures { OnOk result (text.new.items ≡ text.old.items ++ symbol_text names.now item) }
 {
@@ -79,7 +79,7 @@ fn attribute_of(class: &Class, field: usize) -> Sym
     }
 }
 
-/// Adds the name of a field: that of its attribute, and in the vector attribute its place too.
+/// Adds the name of a field: that of its attribute, and for the vector attribute also the field's place in it.
 fn add_field(
     text: &mut Vec<u8>,
     names: &Names,
@@ -131,7 +131,7 @@ fn add_binding(
     add_value(text, names, value)
 }
 
-/// Adds the bindings, with `;` between two.
+/// Adds the bindings, separated by `;`.
 pub(crate) fn add_bindings(
     text: &mut Vec<u8>,
     names: &Names,

@@ -15,8 +15,8 @@ use ops_io::{Out, Sink};
 use ops_print::fresh_line;
 use std::alloc::Global;
 
-/// Puts the lines that explain the productions of a program over working memory. It explains one production after the
-/// other (`explain` of `why`), and holds the text of all.
+/// Puts the lines that explain the productions of a program over working memory. It explains one production after
+/// another (by `explain` of `why`), and holds the text of all in memory.
 pub fn put_why<K: Sink>(
     alloc: Global,
     names: &Names,

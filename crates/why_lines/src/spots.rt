@@ -1,4 +1,4 @@
-//! Where the values that an instantiation binds come from.
+//! The origin of the values that an instantiation binds.
 ghost use Rattle.std.specs.Prelude.{◌≡◌, ◌+◌, ◌++◌, OnOk, IfOk, map};
 ghost use Rattle.why_lines.specs.declared.spots.Spot.{Spot};
 ghost use Rattle.why_lines.specs.WhyLines.{fields_bound, spots_from};
@@ -8,7 +8,7 @@ use ops_base::memory::OutOfMemory;
 use std::alloc::Global;
 use why::variable_of;
 
-/// A test that puts a value at a variable.
+/// A test that binds a variable to a value.
 #[derive(Clone, Copy)]
 pub(crate) struct Spot {
     /// The place of its condition among the parts of the left side, counted from 1.
@@ -33,7 +33,7 @@ fn add_spots(spots: &mut Vec<Spot>, place: usize, c: &Condition) -> Result<(), O
     Ok(())
 }
 
-/// Those of the tests of positive conditions, in text order.
+/// The spots of the tests of positive conditions, in text order.
 pub(crate) fn spots_of(alloc: Global, parts: &[Part]) -> Result<Vec<Spot>, OutOfMemory>
     ensures { IfOk result (λ v. v.items ≡ spots_from 1 parts.now) }
 {

@@ -14,9 +14,9 @@ use Rattle.activation.specs.inner.Children.{Target, children_of}
 use Rattle.activation.specs.inner.Putting.{Put, left_entries, put_for}
 use Rattle.activation.specs.inner.Negating.{blockers_for, put_once, put_flipped}
 
--- What a task does at its node: what is put out below, to arrive there or to leave; how often right tokens stand that
--- match the task's token, if that is a left one of a negated node or a group, else 0; and whether the token is one
--- blocker more, or one less, of the left tokens that it matches.
+-- What a task does at its node: what is put out, and whether it arrives below or leaves; the number of right tokens,
+-- by effective count, that match the task's token, if it is a left token of a negated node or a group, otherwise 0;
+-- and whether the token adds or removes one blocker of the left tokens that it matches.
 pub record Effect : Type 0 where
   pub plus : Bool
   pub puts : List Put
@@ -27,7 +27,7 @@ pub record Effect : Type 0 where
 abbrev pub no_effect : Bool → Effect
 no_effect plus = record { plus = plus; puts = []; blockers = 0; blocks = false }
 
--- at a join; `moves` says whether the task changes how often its token stands
+-- at a join; `moves` is true if the task changes the effective count of its token
 abbrev pub join_effect : List JoinTest → Elements → Option CodeMemory → Task → Bool → Effect
 join_effect tests elements m x moves = record {
   plus = x.plus;
@@ -45,7 +45,7 @@ left_effect node elements m x moves = record {
   blocks = false;
 }
 
--- of a right task at one of these: an insert takes back what was put out, and a delete puts it out again
+-- of a right task at one of these: an insert retracts what was put out, and a delete puts it out again
 abbrev pub right_effect : Node → Elements → Option CodeMemory → Task → Bool → Effect
 right_effect node elements m x moves = record {
   plus = not x.plus;
@@ -69,8 +69,8 @@ effect_by (Terminal rule) node elements m x moves = no_effect x.plus
 abbrev pub effect_at : Node → Elements → Option CodeMemory → Task → Bool → Effect
 effect_at node elements m x moves = effect_by node.kind node elements m x moves
 
--- What the effect puts out came after the tasks that were there, for each of the nodes below; the rest is as the effect
--- says.
+-- The effect's output was added after the tasks that were there, for each of the nodes below; the other fields are
+-- those of the effect.
 pub record IsGiven (below : List Target) (e : Effect) (before now : List Task) (d : Done) : Type 0 where
   pub given : now ≡ before ++ children_of below e.plus e.puts
   pub blockers : d.blockers ≡ e.blockers

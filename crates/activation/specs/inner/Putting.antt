@@ -9,17 +9,17 @@ use Rattle.token_line.specs.declared.memory.CodeMemory.{CodeMemory}
 use Rattle.token_line.specs.Bags.{standing}
 use Rattle.token_line.specs.inner.Pairs.{Pairs}
 
--- a token that a node puts out, and how often
+-- a token that a node puts out, and how many times
 pub record Put : Type 0 where
   pub token : List ℕ
   pub times : ℕ
 
--- the token, with the tag after it where there is one
+-- the token, followed by the tag if there is one
 abbrev pub tagged : List ℕ → Option ℕ → List ℕ
 tagged t None = t
 tagged t (Some tag) = t ++ tag ∷ []
 
--- one insert or one delete more changes how often a token of this sum stands
+-- one more insert or delete changes the effective count of a token with this sum
 abbrev pub changes : ℤ → Bool → Bool
 changes (pos n) true = true
 changes (negsuc n) true = false
@@ -27,7 +27,7 @@ changes (pos zero) false = false
 changes (pos (suc n)) false = true
 changes (negsuc n) false = false
 
--- ---- the tokens of a node, none where no token of it ever came
+-- ---- the tokens of a node; none if the node never had a token here
 
 abbrev pub left_entries : Option CodeMemory → Pairs
 left_entries None = []
@@ -39,19 +39,19 @@ right_entries (Some m) = m.right
 
 -- ---- what a join puts out
 
--- the token, as often as one of this sum stands, where the test holds
+-- the token, as many times as the effective count of this sum, if the test holds
 abbrev pub put_if : Bool → List ℕ → ℤ → List Put
 put_if holds t sum = if holds then record { token = t; times = standing sum } ∷ [] else []
 
--- for one left token more or less: it with each right token that joins it
+-- for one more or one less left token: that token with each right token that joins it
 abbrev pub put_for_left : List JoinTest → Elements → List ℕ → Pairs → List Put
 put_for_left tests elements t right = flat_map (λ e. put_if (joins_hold tests elements t (slice_index e.0 0)) (t ++ slice_index e.0 0 ∷ []) e.1.sum) right
 
--- for one right token more or less: each left token that joins it, with its tag
+-- for one more or one less right token: each left token that joins it, with its tag
 abbrev pub put_for_right : List JoinTest → Elements → ℕ → Pairs → List Put
 put_for_right tests elements tag left = flat_map (λ e. put_if (joins_hold tests elements e.0 tag) (e.0 ++ tag ∷ []) e.1.sum) left
 
--- the same of a task that changes how often its token stands, by the side of the token
+-- the same for a task that changes the effective count of its token, by the side of the token
 abbrev pub put_for : List JoinTest → Elements → Option CodeMemory → Side → List ℕ → List Put
 put_for tests elements m Left t = put_for_left tests elements t (right_entries m)
 put_for tests elements m Right t = put_for_right tests elements (slice_index t 0) (left_entries m)

@@ -1,4 +1,4 @@
--- What the entries of lines tell of instantiations that came and went.
+-- What follows from the entries of lines about instantiations that came and went.
 use Rattle.std.specs.Prelude.{◌≡◌, ◌==◌, ◌&&◌, ◌-◌, ℕ, ℤ, ◌+ℤ◌, ◌-ℤ◌, Bool, false, List, [], ◌∷◌, ◌++◌, filter, flat_map, fold, length, map, nat_lt, slice_get, slice_set, Option, Some, None, if◌then◌else◌}
 use Rattle.std.specs.List.Sorted.{IsPermutation, IsSortedByKey}
 use Rattle.std.specs.Ordering.{eq_by_cmp}
@@ -17,7 +17,7 @@ use Rattle.step_core.specs.declared.gathering.Moved.{Moved}
 use Rattle.step_core.specs.declared.gathering.Total.{Total}
 use Rattle.step_core.specs.Found.{inst}
 
--- ---- what entries moved
+-- ---- what entries did at terminals
 
 abbrev pub rule_of : Kind → Option ℕ
 rule_of Join = None
@@ -25,7 +25,7 @@ rule_of Negated = None
 rule_of (Group giver width members) = None
 rule_of (Terminal rule) = Some rule
 
--- the rule of the terminal to which a task brings a left token
+-- the rule of the terminal, if the task brings a left token to one
 abbrev pub rule_in : Option Node → Side → Option ℕ
 rule_in None s = None
 rule_in (Some x) Left = rule_of x.kind
@@ -35,14 +35,14 @@ abbrev pub moved_to : Option ℕ → Task → ℤ → List Moved
 moved_to None x sum = []
 moved_to (Some k) x sum = record { inst = inst k x.token; plus = x.plus; sum = sum } ∷ []
 
--- what a task of the line moved, with the sum of its token now
+-- what a task of the line did at a terminal, with the sum of its token now
 abbrev pub moved_by : List Node → Seen → Task → List Moved
 moved_by nodes l x = moved_to (rule_in (slice_get nodes x.node) x.side) x (l.sums x.node Left x.token)
 
 abbrev pub moved_on : List Node → Seen → List Moved
 moved_on nodes l = flat_map (moved_by nodes l) (tasks_of l.entries)
 
--- what the entries of these lines moved, in their order
+-- what the entries of these lines did at terminals, in their order
 abbrev pub moved_over : List Node → List Seen → List Moved
 moved_over nodes ls = flat_map (moved_on nodes) ls
 
@@ -77,13 +77,14 @@ abbrev pub counted_last : Option Total → List Total → Moved → List Total
 counted_last None ts m = ts
 counted_last (Some x) ts m = slice_set ts (length ts - 1) (counted_in x m)
 
--- one more that moved: it counts in the last total, where that is of its instantiation, or begins one of its own
+-- one more insert or delete: it counts in the last total if that is of its instantiation, and begins a new one
+-- otherwise
 abbrev pub added : List Total → Moved → List Total
 added ts m = if ends_with ts m.inst then counted_last (slice_get ts (length ts - 1)) ts m else ts ++ begun m ∷ []
 
 -- ---- what came and went
 
--- a token did not stand and stands
+-- a token that was not present is present
 abbrev pub is_moved : ℤ → ℤ → Bool
 is_moved old new = (standing old == 0) && nat_lt 0 (standing new)
 
@@ -94,19 +95,20 @@ has_come t = is_moved (t.sum -ℤ t.change) t.sum
 abbrev pub has_gone : Total → Bool
 has_gone t = is_moved t.sum (t.sum -ℤ t.change)
 
--- one of these totals, the last, is at hand, and what the others tell has come and gone
+-- the last of these totals is the current one, and those that came and went are reported from the others
 pub record HaveAtHand (ts : List Total) (x : Total) (come gone : List Inst) : Type 0 where
   pub front : List Total
   pub all : ts ≡ front ++ x ∷ []
   pub come_is : come ≡ map (λ t. t.inst) (filter has_come front)
   pub gone_is : gone ≡ map (λ t. t.inst) (filter has_gone front)
 
--- these have come and gone by the totals, but for what the one at hand tells; where none is at hand there is none
+-- these are reported by the totals, except for the current one; if there is no current one, there are no totals
+-- and none are reported
 abbrev pub AreToldBut : List Total → Option Total → List Inst → List Inst → Type 0
 AreToldBut ts None come gone = (ts ≡ []) × (come ≡ []) × (gone ≡ [])
 AreToldBut ts (Some x) come gone = HaveAtHand ts x come gone
 
--- these are reported of the totals of what moved, in order
+-- these are reported from the totals of these inserts and deletes, in order
 pub record AreTold (moved : List Moved) (come gone : List Inst) : Type 0 where
   pub sorted : List Moved
   pub same : IsPermutation moved sorted

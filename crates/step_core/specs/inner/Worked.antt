@@ -5,7 +5,7 @@ use Rattle.token_line.specs.declared.line.Line.{Line}
 abbrev pub has_entries : Line → Bool
 has_entries l = not (length l.entries.items == 0)
 
--- these are the places of the lines that have entries, each once
+-- exactly the places of the lines that have entries, each once
 pub record AreWorked (ls : List Line) (worked : List ℕ) : Type 0 where
   pub within : (k i : ℕ) → slice_get worked k ≡ Some i → i < length ls
   pub busy : (k i : ℕ) (l : Line) → slice_get worked k ≡ Some i → slice_get ls i ≡ Some l → 1 ≤ length l.entries.items

@@ -11,7 +11,7 @@ use Rattle.token_line.specs.Sums.{blocked, side_of, sum_kept}
 
 -- ---- memories by their codes
 
--- the tokens of one side of a memory, none where there is no memory
+-- the tokens of one side of a memory, or none if there is no memory
 abbrev pub tokens_of : Option CodeMemory → Side → Pairs
 tokens_of None s = []
 tokens_of (Some memory) s = side_of memory s
@@ -20,7 +20,7 @@ tokens_of (Some memory) s = side_of memory s
 abbrev pub kept_among : List (ℕ × CodeMemory) → ℕ → Side → List ℕ → Option TokenCount
 kept_among memories c s t = cell_of (tokens_of (lookup (nat_eq c) memories) s) t
 
--- the memory of the tokens with this code, none where there are none
+-- the memory of the tokens with this code, or none if there are none
 abbrev pub memory_under : NodeMemory → ℕ → Option CodeMemory
 memory_under m c = if c == m.code then Some m.first else lookup (nat_eq c) m.others
 
@@ -30,7 +30,7 @@ cell_under m c s t = cell_of (tokens_of (memory_under m c) s) t
 abbrev pub codes_of : NodeMemory → List ℕ
 codes_of m = m.code ∷ keys_of m.others
 
--- what the first of these codes has, of those that have something
+-- the value at the first of these codes that has one
 abbrev pub first_some : {X : Type 0} → (ℕ → Option X) → List ℕ → Option X
 first_some f [] = None
 first_some f (c ∷ cs) = option_or (f c) (first_some f cs)
@@ -39,14 +39,14 @@ first_some f (c ∷ cs) = option_or (f c) (first_some f cs)
 abbrev pub cell_in : NodeMemory → Side → List ℕ → Option TokenCount
 cell_in m s t = first_some (λ c. cell_under m c s t) (codes_of m)
 
--- what is kept of a token once one right token more or less has come: it counts where the token is one that it is for,
--- if it goes with that
+-- what is kept of a token after one more or one less right token; `here` is true if that is for the same node, side
+-- and code, and `matches` if the two tokens go together
 abbrev pub cell_blocked : Bool → Bool → Bool → Option TokenCount → Option TokenCount
 cell_blocked here matches plus o = if here then option_map (blocked matches plus) o else o
 
 -- ---- the memories of all nodes
 
--- none where the node has none
+-- none if the node has none
 abbrev pub memory_of : Option NodeMemory → ℕ → Option CodeMemory
 memory_of None c = None
 memory_of (Some m) c = memory_under m c

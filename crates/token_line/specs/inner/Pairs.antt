@@ -1,4 +1,4 @@
--- Tokens with what is kept of each, as a list.
+-- Tokens as a list, with what is kept of each.
 use Rattle.std.specs.Prelude.{◌≢◌, ℕ, List, Option, pos, bytes_eq, position}
 use Rattle.std.specs.List.{IsDistinct}
 use Rattle.std.specs.Map.{keys_of, lookup}
@@ -16,7 +16,7 @@ cell_of kept t = lookup (bytes_eq t) kept
 abbrev pub place_of : Pairs → List ℕ → Option ℕ
 place_of kept t = position (bytes_eq t) (keys_of kept)
 
--- no token is there twice, and none with a sum of 0
+-- no token is there twice, and none has a sum of 0
 pub record ArePairs (kept : Pairs) : Type 0 where
   pub apart : IsDistinct bytes_eq (keys_of kept)
   pub some : (t : List ℕ) → ForSome (cell_of kept t) (λ c. c.sum ≢ pos 0)

@@ -1,4 +1,4 @@
--- The pairs that a room holds.
+-- The pairs that a map holds.
 use Rattle.std.specs.Prelude.{List}
 use Rattle.token_line.specs.declared.small_map.Room.{Room}
 use Rattle.token_line.specs.declared.small_map.Room.TheVariants.{Few, Many}

@@ -1,4 +1,5 @@
--- What a room, or what is kept in one, ends as where the value at a place of it was lent. No public clause cites this.
+-- The final value of a map, or of a list in one, after the value at one of its places was borrowed. No public clause
+-- cites this.
 use Rattle.std.specs.Prelude.{ℕ, List, Option, None, Some, slice_get}
 use Rattle.std.specs.Vec.{with_item}
 use Rattle.std.specs.declared.vec.Vec.{Vec}
@@ -11,12 +12,12 @@ use Rattle.token_line.specs.contracts.small_map.Room.{the_row}
 use Rattle.token_line.specs.contracts.small_map.SmallMap as small_map
 
 module _ {K V : Type 0} where
-  -- the list with w in the pair at the place, which was this one
+  -- the list with w in the pair at the place, where this pair was
   abbrev pub list_with_value : {G : Type 0} → Vec (K × V) G → ℕ → V → Option (K × V) → Vec (K × V) G
   list_with_value list i w None = list
   list_with_value list i w (Some e) = with_item list i (e.0, w)
 
-  -- the room with w as the value at the place
+  -- the map with w as the value at the place
   abbrev pub room_with_value : Room K V → ℕ → V → Room K V
   room_with_value (Few list) i w = Few (list_with_value list i w (slice_get list.items i))
   room_with_value (Many map) i w = Many (record map { value = with_value_at map.value i w })

@@ -5,7 +5,7 @@ use Rattle.token_line.specs.declared.token_room.TokenRoom.{TokenRoom}
 use Rattle.token_line.specs.declared.token_room.TokenRoom.TheVariants.{One, Elements, Longer}
 use Rattle.token_line.specs.inner.Pairs.{Pairs}
 
--- the tag of a token that has no other
+-- the tag of a token that has exactly one
 abbrev pub only_tag : List ℕ → Option ℕ
 only_tag [] = None
 only_tag (tag ∷ []) = Some tag
