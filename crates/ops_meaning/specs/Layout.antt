@@ -225,9 +225,6 @@ last_line names column (ending.Done firings elements last) = []
 last_line names column ending.WriteFault = []
 last_line names column ending.OutOfMemory = []
 
-abbrev pub usage_line : List ℕ
-usage_line = codes "usage: ops [--match direct|serial|rounds|free|steal] [--workers N] [--lines L] [--limit N] FILE.. | ops --gen SEED SIZE | ops --net FILE.. | ops --why FILE..\n"
-
 abbrev pub unread_line : List ℕ → List ℕ
 unread_line name = codes "ops: cannot read " ++ name ++ 10 ∷ []
 

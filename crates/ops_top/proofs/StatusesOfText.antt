@@ -10,7 +10,7 @@ use Rattle.ops_meaning.specs.declared.statuses.Status.{Status}
 use Rattle.ops_meaning.specs.declared.statuses.Status.TheVariants as status
 use Rattle.ops_grammar.specs.Reads.{Read, Placed, reads}
 use Rattle.ops_meaning.specs.Running.{Session, session_of, ending_of}
-use Rattle.ops_meaning.proofs.RisingTags.{KeptCourse, EndsSession, session_goes_on}
+use Rattle.ops_meaning.proofs.RisingTags.{KeptSession, EndsSession, session_goes_on}
 use Rattle.why_lines.proofs.Explained.{explained_ends}
 use Rattle.ops_top.specs.Whole.{status_of, answer_program_by, answer_read, answer_to, session_told, setting_read}
 
@@ -38,7 +38,7 @@ session_of_text : (explained summed : Bool) (limit : ℕ) (coming : Coming) (tex
 session_of_text explained summed limit coming text p =
     let P : Result Session Ending → Type 0 = λ o. IsOfText coming.fails (status_of (ending_of o)) in
     subst P (sym (explained_ends explained p.classes (session_of (setting_read text p) limit p.commands p.names coming)))
-    (ended_of_text (λ (k : Session). KeptCourse p.names coming.fails k.course) coming.fails
+    (ended_of_text (KeptSession p.names coming.fails) coming.fails
     (session_of (setting_read text p) limit p.commands p.names coming).outcome (session_goes_on (setting_read text p) limit p.commands p.names coming))
 
 program_of_text : (job : Job) (coming : Coming) (text : List ℕ) (p : Read) → IsOfText coming.fails (answer_program_by conflict_set job coming text p).status

@@ -19,7 +19,8 @@ use Rattle.ops_io.specs.Output.{column_after}
 use Rattle.ops_meaning.specs.declared.statuses.Status.{Status}
 use Rattle.ops_meaning.specs.declared.statuses.Status.TheVariants as status
 use Rattle.ops_meaning.specs.Effects.{Effect}
-use Rattle.ops_meaning.specs.Layout.{usage_line, unread_line, last_line, line_at, fault_line}
+use Rattle.ops_jobs.specs.Usage.{usage_line}
+use Rattle.ops_meaning.specs.Layout.{unread_line, last_line, line_at, fault_line}
 use Rattle.ops_grammar.specs.Places.{line_of, column_of}
 use Rattle.ops_grammar.specs.Reads.{Read, Placed, reads}
 use Rattle.ops_meaning.specs.Acting.{Setting}

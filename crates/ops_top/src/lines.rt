@@ -1,6 +1,7 @@
 //! The lines that answer words, files and texts that are not run, and those that tell a network.
 ghost use Rattle.std.specs.Prelude.{◌≡◌, ◌++◌, IfOk, OnOk};
-ghost use Rattle.ops_meaning.specs.Layout.{usage_line, unread_line, fault_line};
+ghost use Rattle.ops_jobs.specs.Usage.{usage_line};
+ghost use Rattle.ops_meaning.specs.Layout.{unread_line, fault_line};
 ghost use Rattle.ops_top.specs.NetLines.{count_line, net_lines};
 ghost use Rattle.ops_top.specs.Summary.{summary_line};
 

@@ -1,5 +1,5 @@
 -- What `back` leaves.
-use Rattle.std.proofs.Common.{◌≡◌, ◌∙◌, ap, sym, subst, refl, ℕ, zero, suc, ◌-◌, ◌<◌, ◌≤◌, List, [], ◌∷◌, length, map, take, Bool, true, false, cond, Option, Some, None, option_map, unwrap_or, slice_get, nat_lt, arith}
+use Rattle.std.proofs.Common.{◌≡◌, ◌∙◌, ap, sym, subst, refl, ℕ, zero, suc, ◌-◌, ◌<◌, ◌≤◌, List, [], ◌∷◌, length, map, take, true, cond, Option, Some, None, option_map, unwrap_or, slice_get, nat_lt, arith}
 use Rattle.std.proofs.lemmas.Bool.{lt-ltb, le-ltb}
 use Rattle.std.proofs.lemmas.Option.{slice_get-map, slice_get_past}
 use Rattle.ops_base.specs.declared.endings.Ending.{Ending}
@@ -17,8 +17,8 @@ use Rattle.cycle.specs.States.{Held, alone, no_names, no_input, state_course}
 use Rattle.live_rules.specs.Moves.{Places}
 use Rattle.work_store.specs.Stored.{Stored}
 use Rattle.back_trail.specs.Trails.{Trailed, Earlier as Kept, gone_back, names_at, taken_back, AreMarkedIn, AreNamedFrom}
-use Rattle.session.specs.Courses.{IsFollowed, IsOf, IsUnderWay, meant_by, with_moved, with_pending}
-use Rattle.session.specs.Trailing.{IsNamedFrom, IsTrailOf, IsUndoable, standing_of, earlier_by, meant_with, states_of, trail_by}
+use Rattle.session.specs.Courses.{IsFollowed, IsOf, meant_by, with_moved, with_pending}
+use Rattle.session.specs.Trailing.{IsTrailOf, IsUndoable, standing_of, earlier_by, meant_with, states_of, trail_by}
 use Rattle.session.specs.declared.session.Session.{Session}
 use Rattle.session.specs.declared.undoable.Undoable.{Undoable}
 use Rattle.session.proofs.Points.{taken_long, before_means, got_some, keeps_at, map_long, named_before, within_names}

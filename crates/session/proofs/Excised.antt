@@ -1,5 +1,5 @@
 -- What `excise` leaves of a session with a trail.
-use Rattle.std.proofs.Common.{◌≡◌, ◌∙◌, ap, sym, subst, refl, ℕ, ◌<◌, List, [], length, Bool, true, false, cond, Option, Some, None, option_map, Result, Ok, Err, inl, inr, ◌⊎◌, nat_lt, arith}
+use Rattle.std.proofs.Common.{◌≡◌, ◌∙◌, ap, sym, subst, refl, ℕ, List, [], length, cond, Option, option_map, Result, Ok, Err, inl, inr, ◌⊎◌, nat_lt, arith}
 use Rattle.std.proofs.lemmas.Bool.{lt-ltb, le-ltb}
 use Rattle.ops_base.specs.declared.endings.Ending.{Ending}
 use Rattle.ops_base.specs.declared.programs.Program.{Program}
@@ -7,15 +7,15 @@ use Rattle.ops_base.specs.declared.rules.Rule.{Rule}
 use Rattle.ops_base.specs.declared.values.Sym.{Sym}
 use Rattle.ops_base.specs.Names.{Spellings}
 use Rattle.ops_io.specs.Coming.{Coming}
-use Rattle.ops_io.specs.Ports.{Port, Put}
-use Rattle.ops_meaning.specs.Effects.{Effect, Failure, OfPort, OfEffect, Fails, of_ending}
+use Rattle.ops_io.specs.Ports.{Port}
+use Rattle.ops_meaning.specs.Effects.{Failure, OfPort, OfEffect, Fails, of_ending}
 use Rattle.ops_meaning.specs.Running.{Course, Earlier, Session as Meant, excised}
 use Rattle.cycle.specs.States.{no_names, no_input}
 use Rattle.work_store.specs.Stored.{Stored}
 use Rattle.back_trail.specs.Trails.{Trailed}
 use Rattle.session.specs.Changing.{Excises}
 use Rattle.session.specs.Courses.{course_of, meant_by}
-use Rattle.session.specs.Trailing.{DoesWith, IsNamedFrom, IsTrailOf, IsUndoable, meant_with, standing_of, trail_by}
+use Rattle.session.specs.Trailing.{DoesWith, IsNamedFrom, IsTrailOf, IsUndoable, standing_of, trail_by}
 use Rattle.session.specs.declared.session.Session.{Session}
 use Rattle.session.specs.declared.undoable.Undoable.{Undoable}
 use Rattle.session.proofs.Trailed.{TakesNone, TakesSome, all_out, emptied_by, emptied_means, emptied_named, emptied_of, none_or_some, trail_moved, trailed, unread_too}

@@ -1,5 +1,5 @@
 -- What a session makes is held by its names, as what its right sides make is.
-use Rattle.std.proofs.Common.{◌≡◌, ℕ, zero, suc, ◌+◌, ◌-◌, ◌<◌, ◌≤◌, List, [], ◌∷◌, ◌++◌, length, map, fold, Bool, true, ◌&&◌, Option, Some, None, MatchResult, refl, arith}
+use Rattle.std.proofs.Common.{◌≡◌, ℕ, zero, suc, ◌+◌, ◌-◌, ◌<◌, ◌≤◌, List, [], ◌∷◌, ◌++◌, length, map, fold, true, ◌&&◌, Option, Some, None, MatchResult, refl, arith}
 use Rattle.std.specs.Prelude.{slice_get, slice_set, option_map, unwrap_or, Result, Ok, Err, IfOk}
 use Rattle.std.specs.List.{list_all, list_any}
 use Rattle.std.proofs.lemmas.Bool.{and_parts, and_from, cond_both}
@@ -25,7 +25,7 @@ use Rattle.ops_io.specs.Output.{column_after}
 use Rattle.ops_meaning.specs.Acting.{Setting, acted, emptied, first_of, has_tag}
 use Rattle.ops_meaning.specs.Effects.{Effect, writes, and_then}
 use Rattle.ops_meaning.specs.Layout.{firing_bytes, rule_name}
-use Rattle.ops_meaning.specs.Running.{Course, Turned, Session, LastFiring, begun, turn, line_of_pause, last_of, one_less, given_by, ended_in, with_values, fixed_fields, element_made, removals, turned_of, firing, run_on, next_to_fire, command_done, commands_done, in_force, rule_named, taken_out, taken_out_named, added, is_exit, strategy_given, level_given, breaks_given, session_of, Earlier, earlier, fired_on, is_back, restored, states_kept}
+use Rattle.ops_meaning.specs.Running.{Course, Turned, Session, LastFiring, begun, turn, line_of_pause, last_of, one_less, given_by, ended_in, with_values, fixed_fields, element_made, removals, turned_of, firing, run_on, next_to_fire, command_done, commands_done, in_force, rule_named, taken_out, taken_out_named, added, is_exit, strategy_given, level_given, breaks_given, session_of, Earlier, fired_on, is_back, restored, states_kept}
 use Rattle.ops_meaning.proofs.Trails.{AreKept, back_leaves, firing_kept_too, is_kept, none_kept, none_yet, those_before}
 use Rattle.ops_meaning.proofs.Doings.{goes_on, goes_as, ok_goes}
 use Rattle.act_phase.specs.Held.{element_held, change_held, HoldsProgram, HoldsElements}

@@ -1,12 +1,12 @@
 -- The names that were in use at the points of a trail.
-use Rattle.std.proofs.Common.{◌≡◌, ◌∙◌, ap, sym, subst, refl, ℕ, zero, suc, ◌+◌, ◌-◌, ◌<◌, ◌≤◌, List, [], ◌∷◌, ◌++◌, length, map, take, drop, Option, Some, None, slice_get, arith, inl, inr}
+use Rattle.std.proofs.Common.{◌≡◌, ◌∙◌, ap, sym, subst, refl, ℕ, zero, suc, ◌-◌, ◌<◌, ◌≤◌, List, [], ◌∷◌, ◌++◌, length, map, take, drop, Some, slice_get, arith}
 use Rattle.ops_base.specs.declared.symbols.Point.{Point}
 use Rattle.ops_base.specs.Names.{Spellings}
 use Rattle.ops_meaning.specs.Kept.{KeepsNames}
 use Rattle.ops_meaning.specs.Running.{Earlier, last_kept}
-use Rattle.back_trail.specs.Trails.{Trailed, Earlier as Kept, names_at, last_ones, AreNamedFrom}
+use Rattle.back_trail.specs.Trails.{Earlier as Kept, names_at, last_ones, AreNamedFrom}
 use Rattle.cycle.specs.Standing.{Standing}
-use Rattle.session.specs.Trailing.{earlier_by, IsNamedFrom}
+use Rattle.session.specs.Trailing.{earlier_by}
 
 -- ---- lists
 

@@ -1,22 +1,21 @@
 -- A run as a command: what it leaves beside its state and its trail stays as it was.
-use Rattle.std.proofs.Common.{◌≡◌, ◌∙◌, ap, sym, subst, refl, true, ◌-◌, ℕ, [], List, Option, None}
+use Rattle.std.proofs.Common.{◌≡◌, ◌∙◌, ap, sym, subst, true, ℕ, [], List, Option, None}
 use Rattle.ops_base.specs.ConflictSet.{conflict_set}
 use Rattle.ops_base.specs.Names.{Spellings}
 use Rattle.ops_base.specs.WorkingMemory.{Lawful, last_after}
 use Rattle.ops_base.specs.declared.elements.Change.{Change}
-use Rattle.ops_base.specs.declared.endings.Ending.{Ending}
 use Rattle.ops_base.specs.declared.rules.Rule.{Rule}
 use Rattle.ops_io.specs.Coming.{Coming}
 use Rattle.ops_meaning.specs.Acting.{Setting}
-use Rattle.ops_meaning.specs.Running.{Course, Session as Meant, run_given, run_on}
+use Rattle.ops_meaning.specs.Running.{Session as Meant, run_given}
 use Rattle.cycle.specs.States.{alone, no_names, no_input, state_course}
 use Rattle.live_rules.specs.Moves.{Places}
 use Rattle.work_store.specs.Stored.{Stored}
-use Rattle.session.specs.Courses.{IsFollowed, IsOf, course_of, meant_by, with_moved, with_pending}
-use Rattle.session.specs.Trailing.{IsTrailOf, IsTrailed, IsUndoable, meant_with, ready_with, standing_of, trail_by}
+use Rattle.session.specs.Courses.{IsFollowed, IsOf, course_of}
+use Rattle.session.specs.Trailing.{IsTrailed, IsUndoable, meant_with, ready_with, standing_of, trail_by}
 use Rattle.session.specs.declared.session.Session.{Session}
 use Rattle.session.specs.declared.undoable.Undoable.{Undoable}
-use Rattle.session.proofs.Trailed.{trail_moved, trailed}
+use Rattle.session.proofs.Trailed.{trail_moved}
 use Rattle.session.proofs.UnderWay.{nothing_waits}
 
 -- Where all but the state is what it was in one session, and in it what it was in the first, it is what it was in the first.

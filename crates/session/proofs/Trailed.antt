@@ -1,12 +1,11 @@
 -- What commands leave of a session with a trail, by what they leave of it without one.
-use Rattle.std.proofs.Common.{◌≡◌, ◌∙◌, ap, sym, subst, refl, ℕ, zero, suc, ◌≤◌, ◌<◌, List, [], ◌∷◌, ◌++◌, length, map, fold, Bool, true, false, cond, Option, Some, None, is_some, option_map, unwrap_or, Result, Ok, Err, IfOk, inl, inr, ◌⊎◌, arith, nat_lt}
+use Rattle.std.proofs.Common.{◌≡◌, ◌∙◌, ap, sym, subst, refl, ℕ, zero, suc, ◌≤◌, ◌<◌, List, [], ◌∷◌, ◌++◌, length, fold, Bool, true, false, cond, Option, Some, None, option_map, unwrap_or, Result, Ok, Err, IfOk, inl, inr, ◌⊎◌, arith, nat_lt}
 use Rattle.std.specs.Prelude.{position, ◌==◌}
 use Rattle.std.specs.List.{list_any}
 use Rattle.std.specs.List.{position_or_len}
 use Rattle.std.proofs.lemmas.Bool.{ltb-true}
 use Rattle.ops_base.specs.declared.commands.Command.{Command}
 use Rattle.ops_base.specs.declared.commands.Command.TheVariants as command
-use Rattle.ops_base.specs.declared.commands.Strategy.{Strategy}
 use Rattle.ops_base.specs.declared.endings.Ending.{Ending}
 use Rattle.ops_base.specs.declared.endings.Ending.TheVariants as ending
 use Rattle.ops_base.specs.declared.rules.Rule.{Rule}
@@ -16,13 +15,12 @@ use Rattle.ops_base.specs.Names.{Spellings}
 use Rattle.ops_io.specs.Coming.{Coming}
 use Rattle.ops_io.specs.Ports.{Port, Put}
 use Rattle.ops_meaning.specs.Acting.{Setting}
-use Rattle.ops_meaning.specs.Effects.{Effect, Failure, OfPort, OfEffect, Fails, Performs, of_ending, outcome_as, told_as, writes}
-use Rattle.ops_meaning.specs.Running.{Course, Earlier, Session as Meant, added, begun, breaks_given, command_done, is_back, trail_begun, level_given, rule_named, strategy_given, taken_out, taken_out_named}
+use Rattle.ops_meaning.specs.Effects.{Effect, Failure, OfPort, OfEffect, Fails, of_ending, outcome_as, told_as}
+use Rattle.ops_meaning.specs.Running.{Course, Earlier, Session as Meant, added, begun, command_done, is_back, trail_begun, rule_named, taken_out, taken_out_named}
 use Rattle.cycle.specs.States.{no_names, no_input}
-use Rattle.cycle.specs.Standing.{Standing}
 use Rattle.work_store.specs.Stored.{Stored}
 use Rattle.back_trail.specs.Trails.{Trailed, nothing_kept}
-use Rattle.session.specs.Courses.{IsUnderWay, course_of, ends_unread, meant_by}
+use Rattle.session.specs.Courses.{course_of, ends_unread, meant_by}
 use Rattle.session.specs.Deeds.{Does}
 use Rattle.session.specs.Trailing.{DoesWith, IsNamedFrom, IsTrailOf, IsUndoable, empties, is_plain, meant_with, standing_of, trail_by}
 use Rattle.session.specs.declared.session.Session.{Session}

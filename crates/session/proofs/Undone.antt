@@ -1,5 +1,5 @@
 -- What `back` performs.
-use Rattle.std.proofs.Common.{◌≡◌, ◌∙◌, ap, sym, subst, refl, ℕ, ◌<◌, List, [], ◌∷◌, length, Option, Ok, IsTrue}
+use Rattle.std.proofs.Common.{◌≡◌, ◌∙◌, ap, sym, subst, refl, ℕ, ◌<◌, List, [], length, Option, Ok, IsTrue}
 use Rattle.ops_base.specs.declared.endings.Ending.{Ending}
 use Rattle.ops_base.specs.declared.endings.Ending.TheVariants as ending
 use Rattle.ops_base.specs.declared.rules.Rule.{Rule}
@@ -8,7 +8,7 @@ use Rattle.ops_io.specs.Coming.{Coming}
 use Rattle.ops_io.specs.Ports.{Port, Put, Stopped}
 use Rattle.ops_io.specs.declared.stop.Stop.TheVariants as stop
 use Rattle.ops_meaning.specs.Effects.{Effect, Fails, of_ending, writes}
-use Rattle.ops_meaning.specs.Layout.{kept_line, line_at, lines_at}
+use Rattle.ops_meaning.specs.Layout.{kept_line, line_at}
 use Rattle.ops_meaning.specs.Running.{Session as Meant, back_given}
 use Rattle.ops_meaning.proofs.EffectLemmas.{fails_short}
 use Rattle.cycle.specs.States.{no_names, no_input}

@@ -1,5 +1,5 @@
 -- The point that a session has reached, as the code represents it.
-use Rattle.std.specs.Prelude.{◌≡◌, ℕ, List, [], length, Bool, true, false, Option, Some, None, Result, Ok, Err}
+use Rattle.std.specs.Prelude.{◌≡◌, ℕ, List, [], length, Bool, true, false, Option, Some, None, Result, Err}
 use Rattle.ops_base.specs.declared.commands.Command.{Command}
 use Rattle.ops_base.specs.declared.commands.Command.TheVariants as command
 use Rattle.ops_base.specs.declared.elements.Change.{Change}
@@ -11,8 +11,6 @@ use Rattle.ops_base.specs.WorkingMemory.{done, last_after, Lawful}
 use Rattle.ops_base.specs.Names.{Spellings}
 use Rattle.ops_base.specs.Refraction.{unfired}
 use Rattle.ops_io.specs.Coming.{Coming}
-use Rattle.ops_io.specs.declared.stop.Stop.{Stop}
-use Rattle.ops_io.specs.declared.stop.Stop.TheVariants as stop
 use Rattle.ops_meaning.specs.Running.{Course, Session as Meant, ranked}
 use Rattle.conflict_index.specs.Indexed.{Indexed, insts_of, fired_of, KeepsSpecificities}
 use Rattle.cycle.specs.States.{Held, alone, state_course}

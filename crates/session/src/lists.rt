@@ -1,5 +1,5 @@
 //! The commands that list elements and instantiations.
-ghost use Rattle.std.specs.Prelude.{◌≡◌, ◌^◌, ◌<◌, [], ◌∷◌, map, filter, drop, slice_get, unwrap_or, None, false, IsTrue};
+ghost use Rattle.std.specs.Prelude.{◌≡◌, ◌^◌, ◌<◌, [], ◌∷◌, map, filter, slice_get, unwrap_or, None, false, IsTrue};
 ghost use Rattle.std.specs.List.{list_all, cons_option};
 ghost use Rattle.ops_base.specs.Values.{are_same, nil};
 ghost use Rattle.ops_io.specs.Ports.{port, PutsBytes};

@@ -25,7 +25,6 @@ use ops_base::elements::{Change, Element};
 use ops_base::endings::Ending;
 use ops_base::list::Listed;
 use ops_base::memory::OutOfMemory;
-use ops_base::programs::Program;
 use ops_base::symbols::Names;
 use ops_io::{Out, Sink};
 use std::alloc::Global;

@@ -1,4 +1,3 @@
-use Rattle.std.proofs.Common.{◌≡◌, ◌∙◌, ap, sym, subst, refl, false}
 use Rattle.ops_meaning.specs.Effects.{of_ending}
 use Rattle.ops_meaning.proofs.InletLemmas.{performs_apart}
 use Rattle.session.proofs.Plain.{named_above, plain_left}

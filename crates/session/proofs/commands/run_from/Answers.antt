@@ -1,11 +1,11 @@
-use Rattle.std.proofs.Common.{◌∙◌, ap, sym, refl}
+use Rattle.std.proofs.Common.{◌∙◌, ap, refl}
 use Rattle.std.proofs.lemmas.Result.{err_from_is_err_and}
 use Rattle.ops_meaning.specs.Effects.{of_ending}
 use Rattle.ops_meaning.proofs.NamesKept.{names_then}
 use Rattle.cycle.specs.States.{no_names, no_input, state_course}
 use Rattle.act_phase.specs.Outcomes.{setting_of}
 use Rattle.session.specs.Courses.{course_of}
-use Rattle.session.specs.Trailing.{meant_with, ready_with, standing_of, trail_by}
+use Rattle.session.specs.Trailing.{ready_with, standing_of, trail_by}
 use Rattle.session.proofs.RunLemmas.{given_is, ran_is, ran_undoable}
 use Rattle.session.proofs.Seen.{runs_short, seen_err, seen_ok}
 use Rattle.session.proofs.Trailed.{trail_moved, trailed}

@@ -1,4 +1,4 @@
-use Rattle.std.proofs.Common.{◌∙◌, ap, sym, refl, cond}
+use Rattle.std.proofs.Common.{◌∙◌, ap, cond}
 use Rattle.std.proofs.lemmas.Result.{err_from_is_err_and}
 use Rattle.act_phase.specs.Outcomes.{setting_of}
 use Rattle.session.proofs.Trailed.{emptied_by, plain_err, plain_ok}

@@ -1,4 +1,4 @@
-use Rattle.std.proofs.Common.{◌≡◌, ◌∙◌, ap, sym, subst, refl, length, ◌<◌, ◌≤◌, ◌-◌, arith, [], Some, None, slice_get}
+use Rattle.std.proofs.Common.{◌≡◌, ◌∙◌, ap, sym, subst, refl, length, ◌<◌, ◌≤◌, arith, [], Some, None}
 use Rattle.std.proofs.lemmas.Result.{err_from_is_err_and}
 use Rattle.ops_io.specs.Coming.{Coming}
 use Rattle.ops_io.proofs.PortLemmas.{put_nothing}

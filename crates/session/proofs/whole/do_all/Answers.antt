@@ -1,11 +1,5 @@
 use Rattle.std.proofs.Common.{sym}
 use Rattle.std.proofs.lemmas.Result.{err_from_is_err_and}
-use Rattle.ops_base.specs.declared.elements.Class.{Class}
-use Rattle.ops_io.specs.Coming.{Coming}
-use Rattle.ops_io.specs.Ports.{port}
-use Rattle.ops_meaning.specs.Effects.{Performs, of_ending}
-use Rattle.act_phase.specs.Outcomes.{setting_of}
-use Rattle.ops_meaning.specs.Running.{session_of}
 use Rattle.session.specs.Trailing.{meant_with}
 use Rattle.session.proofs.Comings.{performed_put}
 use Rattle.session.proofs.Explained.{explained_fails, left_alone, explained_after}
