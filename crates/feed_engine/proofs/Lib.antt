@@ -1,1 +1,7 @@
 pub mod Combined
+pub mod Going
+pub mod Grown
+pub mod Pieces
+pub mod Places
+pub mod Told
+pub mod Whole
