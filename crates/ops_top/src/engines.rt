@@ -1,12 +1,18 @@
 //! The engines over which a session can run, and what settles each of them.
-ghost use Rattle.std.specs.Prelude.{◌≡◌, ◌^◌, ◌<◌, List, length, false, IfOk, IsTrue};
+ghost use Rattle.std.specs.Prelude.{◌≡◌, ◌^◌, ◌<◌, [], List, All, length, true, false, IfOk, IsTrue};
 ghost use Rattle.ops_base.specs.declared.rules.Rule.{Rule};
 ghost use Rattle.ops_base.specs.Symbols.{is_held};
-ghost use Rattle.ops_base.specs.WorkingMemory.{Lawful, done, last_after};
+ghost use Rattle.ops_base.specs.WorkingMemory.{Lawful, done, last_after, tags_of};
+ghost use Rattle.ops_io.specs.Coming.{inlet};
+ghost use Rattle.ops_io.specs.Ports.{port};
 ghost use Rattle.ops_jobs.specs.Laws.{IsWithinLimits};
+ghost use Rattle.ops_meaning.specs.Acting.{acted};
+ghost use Rattle.ops_meaning.specs.Effects.{PerformsOn, CountsReads};
+ghost use Rattle.ops_meaning.specs.Kept.{KeepsNames, WellKept};
 ghost use Rattle.ops_meaning.specs.Running.{session_of};
-ghost use Rattle.act_phase.specs.Asking.{session_asks};
-ghost use Rattle.act_phase.specs.Outcomes.{setting_of};
+ghost use Rattle.act_phase.specs.Asking.{right_side_asks, session_asks};
+ghost use Rattle.act_phase.specs.Held.{HoldsProgram, HoldsElements, HoldsMade};
+ghost use Rattle.act_phase.specs.Outcomes.{acted_of, failure_of, is_unread, setting_of};
 ghost use Rattle.work_store.specs.Settling.{IsSettled};
 ghost use Rattle.cycle.specs.Settles.{Settles};
 ghost use Rattle.net_base.specs.Network.{NetOf};
@@ -17,13 +23,16 @@ ghost use Rattle.why_lines.specs.Explained.{explained_if};
 
 use crate::answer::{Hands, answer_over};
 use crate::makers::{DirectMaker, FreeMaker, RoundsMaker, SerialMaker, StealMaker};
+use act_phase::{ActFault, Acted};
 use cycle::{InTurn, Maker};
+use feed_engine::{LentActor, act_overlapped};
 use free_engine::FreeEngine;
 use ops_base::elements::Change;
 use ops_base::memory::OutOfMemory;
 use ops_base::programs::Program;
+use ops_base::rules::Inst;
 use ops_base::symbols::Names;
-use ops_io::{Gate, Sink, Source, Stop};
+use ops_io::{Gate, Input, Out, Sink, Source, Stop};
 use ops_jobs::{Engine, Options};
 use ops_meaning::Status;
 use rounds_engine::RoundsEngine;
@@ -43,15 +52,17 @@ pub(crate) struct Plan {
     pub(crate) is_summed: bool,
 }
 
-/// The answer to a program whose session runs over the matchers of this maker, which this closure settles after each
-/// right side.
-fn answer_by<
-    M: Matcher,
+/// The answer to a program whose session runs over the matchers of this maker, which this closure settles while a right
+/// side waits for its input, and after it.
+fn answer_overlapped<
+    R: Threads,
+    M: Matcher + Send,
     B: Maker<M = M>,
-    H: Fn(M, &[Change]) -> Result<Settled<M>, OutOfMemory>,
+    H: Fn(M, &[Change]) -> Result<Settled<M>, OutOfMemory> + Sync,
     I: Source,
     K: Sink,
 >(
+    rt: &R,
     alloc: Global,
     settle: &H,
     program: Program,
@@ -74,6 +85,78 @@ fn answer_by<
         (devices (I.left source.old) (I.faults source.old) (K.taken sink.old) (K.faults sink.old))
         (devices (I.left source.new) (I.faults source.new) (K.taken sink.new) (K.faults sink.new)) }
 {
+    let act = |alloc: Global, program: &Program, names: &mut Names, matcher: M, inst: &Inst, watch: u8, input: &mut Input, source: &mut I, out: &mut Out, sink: &mut K| -> Result<
+        (Acted, Settled<M>),
+        ActFault,
+    >
+        requires { Settles M.stored M.found M.stands_for (λ m cs. H.pre settle.now m cs) (λ m cs r. H.post settle.now m cs r)
+            × IsTrue out.now.whole × (K.faults sink.now < 2 ^ 63) × (I.faults source.now < 2 ^ 63) × ((M.stored matcher).last < 2 ^ 63)
+            × WellKept (M.stored matcher).elements (M.stored matcher).last × All (λ t. 0 < t) (tags_of (M.stored matcher).elements) }
+        ensures acts { PerformsOn (λ r c. acted_of r.0 names.new c) failure_of result
+            (inlet input.old (I.left source.old) (I.faults source.old)) (inlet input.new (I.left source.new) (I.faults source.new))
+            (port (K.taken sink.old) (K.faults sink.old) out.old) (port (K.taken sink.new) (K.faults sink.new) out.new)
+            (λ c. acted (setting_of program.now watch) out.old.column inst.now
+            (record { wm = (M.stored matcher).elements; last = (M.stored matcher).last; names = names.old; coming = c })) }
+        ensures reads { CountsReads (is_unread result) (I.faults source.old) (I.faults source.new) }
+        ensures written { is_unread result ≡ true → out.new.held ≡ [] }
+        ensures untouched { right_side_asks program.now.rules inst.now.rule ≡ false → (input.new ≡ input.old) × (source.new ≡ source.old) }
+        ensures names { KeepsNames names.old names.new }
+        ensures held { HoldsProgram names.old program.now → HoldsElements names.old (M.stored matcher).elements
+            → HoldsProgram names.new program.now × HoldsElements names.new (M.stored matcher).elements × IfOk result (λ r. HoldsMade names.new r.0.changes) }
+        ensures lawful { IfOk result (λ r. Lawful (M.stored matcher).elements (M.stored matcher).last r.0.changes) }
+        ensures elements { IfOk result (λ r. (M.stored r.1.matcher).elements ≡ done (M.stored matcher).elements r.0.changes) }
+        ensures last { IfOk result (λ r. (M.stored r.1.matcher).last ≡ last_after (M.stored matcher).last r.0.changes) }
+        ensures settled { IfOk result (λ r. IsSettled (M.found matcher) (M.found r.1.matcher) r.1.gone.items r.1.come.items) }
+        ensures stands { IfOk result (λ r. (rules : List Rule) → M.stands_for matcher rules → M.stands_for r.1.matcher rules) }
+    {
+        act_overlapped(
+            rt, settle, alloc, program, names, matcher, inst, watch, input, source, out, sink,
+        )
+    };
+    let actor = LentActor::new(&act);
+    let hands = Hands {
+        settle,
+        actor: &actor,
+    };
+    answer_over(alloc, &hands, program, names, maker, plan, source, sink)
+}
+
+/// The answer to a program whose session runs over the matchers of this maker, which this closure settles after each
+/// right side, and with `--overlap` while it waits for its input, too.
+fn answer_by<
+    R: Threads,
+    M: Matcher + Send,
+    B: Maker<M = M>,
+    H: Fn(M, &[Change]) -> Result<Settled<M>, OutOfMemory> + Sync,
+    I: Source,
+    K: Sink,
+>(
+    rt: &R,
+    alloc: Global,
+    settle: &H,
+    program: Program,
+    names: &mut Names,
+    maker: &B,
+    plan: Plan,
+    source: &mut I,
+    sink: &mut K,
+) -> Result<Status, Stop>
+    requires settles { Settles M.stored M.found M.stands_for (λ m cs. H.pre settle.now m cs) (λ m cs r. H.post settle.now m cs r) }
+    requires faults { K.faults sink.old < 2 ^ 63 }
+    requires reads { I.faults source.old < 2 ^ 63 }
+    requires some { 0 < length names.old.held }
+    requires held { IsTrue (is_held (length names.old.held) program.classes program.rules program.templates program.commands) }
+    ensures { IsAnswered result
+        (λ coming. told plan.is_summed names.old
+        (explained_if plan.is_explained program.classes
+        (session_of (setting_of program 0) plan.options.limit program.commands names.old coming)))
+        (session_asks program.rules program.commands) (source.new ≡ source.old)
+        (devices (I.left source.old) (I.faults source.old) (K.taken sink.old) (K.faults sink.old))
+        (devices (I.left source.new) (I.faults source.new) (K.taken sink.new) (K.faults sink.new)) }
+{
+    if plan.options.overlap {
+        return answer_overlapped(rt, alloc, settle, program, names, maker, plan, source, sink);
+    }
     let actor = InTurn::new(settle);
     let hands = Hands {
         settle,
@@ -82,8 +165,15 @@ fn answer_by<
     answer_over(alloc, &hands, program, names, maker, plan, source, sink)
 }
 
-/// The answer to a program whose session runs over matchers that settle on the calling thread alone.
-fn answer_alone<M: Matcher<Hand = ()>, B: Maker<M = M>, I: Source, K: Sink>(
+/// The answer to a program whose session runs over matchers that settle on one thread alone.
+fn answer_alone<
+    R: Threads + Sync,
+    M: Matcher<Hand = ()> + Send,
+    B: Maker<M = M>,
+    I: Source,
+    K: Sink,
+>(
+    rt: &R,
     alloc: Global,
     program: Program,
     names: &mut Names,
@@ -111,11 +201,11 @@ fn answer_alone<M: Matcher<Hand = ()>, B: Maker<M = M>, I: Source, K: Sink>(
         ensures settled { IfOk result (λ s. IsSettled (M.found matcher) (M.found s.matcher) s.gone.items s.come.items) }
         ensures stands { IfOk result (λ s. (rules : List Rule) → M.stands_for matcher rules → M.stands_for s.matcher rules) }
     { matcher.settle(alloc, &mut (), changes) };
-    answer_by(alloc, &hand, program, names, maker, plan, source, sink)
+    answer_by(rt, alloc, &hand, program, names, maker, plan, source, sink)
 }
 
 /// The answer to a program whose session runs over the engine of rounds, which shares its rounds among threads.
-fn answer_in_rounds<R: Threads + Sync, I: Source, K: Sink, G: Gate + Copy>(
+fn answer_in_rounds<R: Threads + Sync, I: Source, K: Sink, G: Gate + Copy + Send>(
     rt: &R,
     alloc: Global,
     program: Program,
@@ -153,11 +243,11 @@ fn answer_in_rounds<R: Threads + Sync, I: Source, K: Sink, G: Gate + Copy>(
         ensures settled { IfOk result (λ s. IsSettled (found_over rounds.net.alphas rounds.net.nodes rounds.store.elements) (found_over s.matcher.net.alphas s.matcher.net.nodes s.matcher.store.elements) s.gone.items s.come.items) }
         ensures stands { IfOk result (λ s. (rules : List Rule) → NetOf rounds.net rules → NetOf s.matcher.net rules) }
     { rounds.settle_in_rounds(rt, alloc, changes) };
-    answer_by(alloc, &hand, program, names, &maker, plan, source, sink)
+    answer_by(rt, alloc, &hand, program, names, &maker, plan, source, sink)
 }
 
 /// The answer to a program whose session runs over the engine of free workers, which wait for each other.
-fn answer_freely<R: Threads + Wait + Sync, I: Source, K: Sink, G: Gate + Copy>(
+fn answer_freely<R: Threads + Wait + Sync, I: Source, K: Sink, G: Gate + Copy + Send>(
     rt: &R,
     alloc: Global,
     program: Program,
@@ -195,11 +285,11 @@ fn answer_freely<R: Threads + Wait + Sync, I: Source, K: Sink, G: Gate + Copy>(
         ensures settled { IfOk result (λ s. IsSettled (found_over free.net.alphas free.net.nodes free.store.elements) (found_over s.matcher.net.alphas s.matcher.net.nodes s.matcher.store.elements) s.gone.items s.come.items) }
         ensures stands { IfOk result (λ s. (rules : List Rule) → NetOf free.net rules → NetOf s.matcher.net rules) }
     { free.settle_freely(rt, alloc, changes) };
-    answer_by(alloc, &hand, program, names, &maker, plan, source, sink)
+    answer_by(rt, alloc, &hand, program, names, &maker, plan, source, sink)
 }
 
 /// The answer to a program whose session runs over the stealing engine, whose workers wait for each other.
-fn answer_by_stealing<R: Threads + Wait + Sync, I: Source, K: Sink, G: Gate + Copy>(
+fn answer_by_stealing<R: Threads + Wait + Sync, I: Source, K: Sink, G: Gate + Copy + Send>(
     rt: &R,
     alloc: Global,
     program: Program,
@@ -237,12 +327,12 @@ fn answer_by_stealing<R: Threads + Wait + Sync, I: Source, K: Sink, G: Gate + Co
         ensures settled { IfOk result (λ s. IsSettled (found_over steal.net.alphas steal.net.nodes steal.store.elements) (found_over s.matcher.net.alphas s.matcher.net.nodes s.matcher.store.elements) s.gone.items s.come.items) }
         ensures stands { IfOk result (λ s. (rules : List Rule) → NetOf steal.net rules → NetOf s.matcher.net rules) }
     { steal.settle_shared(rt, alloc, changes) };
-    answer_by(alloc, &hand, program, names, &maker, plan, source, sink)
+    answer_by(rt, alloc, &hand, program, names, &maker, plan, source, sink)
 }
 
 /// The answer to a program whose session runs over the engine that the plan asks for, which waits for no turn of another
 /// thread.
-pub(crate) fn answer_still<R: Threads + Sync, I: Source, K: Sink, G: Gate + Copy>(
+pub(crate) fn answer_still<R: Threads + Sync, I: Source, K: Sink, G: Gate + Copy + Send>(
     rt: &R,
     alloc: Global,
     program: Program,
@@ -267,11 +357,13 @@ pub(crate) fn answer_still<R: Threads + Sync, I: Source, K: Sink, G: Gate + Copy
         (devices (I.left source.new) (I.faults source.new) (K.taken sink.new) (K.faults sink.new)) }
 {
     match plan.options.engine {
-        Engine::Direct => { answer_alone(alloc, program, names, &DirectMaker, plan, source, sink) }
+        Engine::Direct => {
+            answer_alone(rt, alloc, program, names, &DirectMaker, plan, source, sink)
+        }
         Engine::Serial => {
             let lines = plan.options.lines;
             let maker = SerialMaker { lines, gate };
-            answer_alone(alloc, program, names, &maker, plan, source, sink)
+            answer_alone(rt, alloc, program, names, &maker, plan, source, sink)
         }
         Engine::Rounds => { answer_in_rounds(rt, alloc, program, names, plan, source, sink, gate) }
         Engine::Free | Engine::Steal => unreachable!(),
@@ -279,7 +371,7 @@ pub(crate) fn answer_still<R: Threads + Sync, I: Source, K: Sink, G: Gate + Copy
 }
 
 /// The answer to a program whose session runs over the engine that the plan asks for.
-pub(crate) fn answer_program<R: Threads + Wait + Sync, I: Source, K: Sink, G: Gate + Copy>(
+pub(crate) fn answer_program<R: Threads + Wait + Sync, I: Source, K: Sink, G: Gate + Copy + Send>(
     rt: &R,
     alloc: Global,
     program: Program,
