@@ -1,4 +1,4 @@
--- The state of a walk over bytes, a byte at a time.
+-- The state of a walk over bytes, one byte at a time.
 use Rattle.std.proofs.Common.{◌≡◌, ℕ, ◌+◌, ◌<◌, ◌≤◌, List, [], ◌∷◌, ◌++◌, length, take, get_or, Bool, true, false, refl, ap, ◌∙◌, arith}
 use Rattle.std.specs.Prelude.{◌==◌, if◌then◌else◌}
 use Rattle.std.proofs.lemmas.List.{take_more}
@@ -50,6 +50,6 @@ after_append : (s : State) (xs ys : List ℕ) → after_bytes s (xs ++ ys) ≡ a
 after_append s [] ys = refl
 after_append s (x ∷ xs) ys = after_append (after_byte s x) xs ys
 
--- one byte more
+-- one more byte
 pub after_more : (s : State) (xs : List ℕ) (i : ℕ) → i < length xs → after_bytes s (take (i + 1) xs) ≡ after_byte (after_bytes s (take i xs)) (get_or xs i 0)
 after_more s xs i h = ap (after_bytes s) (take_more xs i 0 h) ∙ after_append s (take i xs) (get_or xs i 0 ∷ [])

@@ -27,7 +27,7 @@ module _ (text : List ℕ) where
   abbrev IsLater : ℕ → ℕ → Type 0
   IsLater i j = (line_of text i < line_of text j) ⊎ ((line_of text i ≡ line_of text j) × (column_of text i < column_of text j))
 
-  -- the line of one place, and its column, against those of a place before it
+  -- the line and the column of one place, compared with those of a place before it
   step_by : (b : Bool) (l c m d n e : ℕ) → n ≡ (if b then m + 1 else m) → e ≡ (if b then 1 else d + 1) → (l < m) ⊎ ((l ≡ m) × (c < d)) → (l < n) ⊎ ((l ≡ n) × (c < e))
   step_by true l c m d n e h k (inl p) = inl (omega (arith, h, p))
   step_by true l c m d n e h k (inr p) = inl (omega (arith, h, p.0))

@@ -1,4 +1,4 @@
--- The search, a fault at a time.
+-- The search, one fault at a time.
 use Rattle.std.proofs.Common.{◌≡◌, ℕ, suc, ◌+◌, ◌-◌, ◌<◌, ◌≤◌, List, [], ◌∷◌, ◌++◌, length, Some, None, sym, ap, ◌∙◌, arith, append_assoc, length-append}
 use Rattle.std.proofs.lemmas.List.{append-nil}
 use Rattle.fault_search.specs.declared.first.PlacedFault.{PlacedFault}

@@ -1,4 +1,4 @@
--- How two settles in a row come together.
+-- How two settles in a row combine.
 use Rattle.std.proofs.Common.{◌≡◌, ◌≢◌, ◌+◌, List, [], ◌∷◌, ◌++◌, get_or, Bool, true, false, not, refl, ap, sym, ◌∙◌, subst, inl, inr, ◌⊎◌, arith}
 use Rattle.std.specs.Prelude.{Contains, ◌↔◌, IsPermutation, IsSorted}
 use Rattle.std.specs.declared.cmp.Ordering.{Ordering}
@@ -81,9 +81,9 @@ apart_in_order : (insts : List Inst) → AllBefore Before insts → AllBefore Di
 apart_in_order [] a = tt
 apart_in_order (i ∷ insts) a = (λ j m. before_differs i j (a.0 j m), apart_in_order insts a.1)
 
--- ---- one list of two
+-- ---- two lists as one
 
--- two lists in order with nothing in common, sorted as one, are in order
+-- if two lists are in order and have nothing in common, both sorted as one list are in order
 pub merged_in_order : (xs ys all : List Inst) → IsInOrder xs → IsInOrder ys → ((i : Inst) → Contains xs i → Contains ys i → ⊥) → IsPermutation (xs ++ ys) all → IsSorted by_rule_and_tags all → IsInOrder all
 merged_in_order xs ys all in_xs in_ys apart moved sorted =
     let each : AllBefore Differ (xs ++ ys) =
@@ -91,7 +91,7 @@ merged_in_order xs ys all in_xs in_ys apart moved sorted =
     (λ i j m n same. let P : Inst → Type 0 = λ w. IsMember w ys in apart i (contains_from_member i xs m) (contains_from_member i ys (subst P (sym same) n))) in
     all_pairs_from_before Before all (in_order_from_sorted all sorted (IsDistinct-IsPermutation is_same_inst flips (xs ++ ys) all moved (distinct (xs ++ ys) each)))
 
--- it has what either has
+-- it contains what either of them contains
 pub merged_has : (xs ys all : List Inst) (i : Inst) → IsPermutation (xs ++ ys) all → Contains all i ↔ (Contains xs i ⊎ Contains ys i)
 merged_has xs ys all i moved = (to, from)
   where

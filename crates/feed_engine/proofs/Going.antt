@@ -41,7 +41,7 @@ within_without : (part whole : List Element) (tag : ℕ) → Within part whole �
 within_without part whole tag within t there =
     has_tag-without whole tag t ∙ and_more (has_tag part t) (not (t == tag)) (has_tag whole t) (within t) (sym (has_tag-without part tag t) ∙ there)
 
--- what is lawful over a part of working memory is so over the whole
+-- changes that are lawful over a part of working memory are lawful over the whole
 pub lawful_over : (part whole : List Element) (last : ℕ) (cs : List Change) → ((t : ℕ) → has_tag part t ≡ true → has_tag whole t ≡ true) → Lawful part last cs → Lawful whole last cs
 lawful_over part whole last [] within p = tt
 lawful_over part whole last (Add e ∷ cs) within p =

@@ -38,8 +38,8 @@ behind : {E S T : Type 0} (P : S → Type 0) (Q : T → Type 0) (o : Result S E)
 behind P Q (Ok s) next p q = q s p
 behind P Q (Err e) next p q = tt
 
--- From this working memory and this last tag the changes so far are lawful and lead to what is there now, and they begin
--- with those before.
+-- The changes so far are lawful over this working memory and this last tag, they lead to the present ones, and they
+-- begin with the earlier changes.
 pub record IsGrown (before : List Change) (old : List Element) (given : ℕ) (d : ActState) : Type 0 where
   pub lawful : Lawful old given d.changes
   pub memory : done old d.changes ≡ d.wm
@@ -51,7 +51,7 @@ module _ (before : List Change) (old : List Element) (given : ℕ) where
   abbrev Grown : ActState → Type 0
   Grown d = IsGrown before old given d
 
-  -- only what is no part of working memory is another
+  -- only parts that are not working memory differ
   grown_beside : (d : ActState) (bindings : List Binding) (cells : List Element) (halted : Bool) (names : Spellings) (coming : Coming) → Grown d
       → Grown (record d { bindings = bindings; cells = cells; halted = halted; names = names; coming = coming })
   grown_beside d bindings cells halted names coming p =
@@ -190,6 +190,6 @@ begun_grown s i g = record { lawful = tt; memory = refl; last_tag = refl; more =
 pub grown_from_now : (before : List Change) (old : List Element) (given : ℕ) (d : ActState) → IsGrown before old given d → IsGrown d.changes old given d
 grown_from_now before old given d p = record { lawful = p.lawful; memory = p.memory; last_tag = p.last_tag; more = []; grown = sym (append-nil d.changes) }
 
--- it doesn't hang on the names and on the input
+-- it does not depend on the names and on the input
 pub grown_with : (before : List Change) (old : List Element) (given : ℕ) (d : ActState) (names : Spellings) (coming : Coming) → IsGrown before old given d → IsGrown before old given (record d { names = names; coming = coming })
 grown_with before old given d names coming p = grown_beside before old given d d.bindings d.cells d.halted names coming p

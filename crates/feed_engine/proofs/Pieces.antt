@@ -32,14 +32,14 @@ last_more last [] ys = refl
 last_more last (Add e ∷ xs) ys = last_more e.tag xs ys
 last_more last (Remove t ∷ xs) ys = last_more last xs ys
 
--- what is left of lawful changes is lawful after the first of them
+-- after the first of some lawful changes, the others are lawful
 pub lawful_rest : (wm : List Element) (last : ℕ) (xs ys : List Change) → Lawful wm last (xs ++ ys) → Lawful (done wm xs) (last_after last xs) ys
 lawful_rest wm last [] ys p = p
 lawful_rest wm last (Add e ∷ xs) ys p = lawful_rest (wm ++ e ∷ []) e.tag xs ys p.1
 lawful_rest wm last (Remove t ∷ xs) ys p = lawful_rest (without_tag t wm) last xs ys p.1
 
 module _ {M : Type 0} (stored : M → Stored) (found : M → List Inst) (stands_for : M → List Rule → Type 0) (before : M) where
-  -- what is left is lawful
+  -- the others are lawful
   pub rest_is_lawful : (changes : List Change) (settled : ℕ) (feed : Feed M) → IsUpTo stored found stands_for before changes settled feed → Lawful (stored before).elements (stored before).last changes
       → Lawful (stored feed.matcher).elements (stored feed.matcher).last (drop settled changes)
   rest_is_lawful changes settled feed up lawful =
@@ -78,7 +78,7 @@ pub no_further : {M : Type 0} (stored : M → Stored) (found : M → List Inst) 
 no_further stored found stands_for changes settled feed within =
     record { more = []; first = sym (append-nil (take settled changes)); within = within; fed = record { elements = refl; last = refl; changed = λ before s. s; stands = λ rules s. s } }
 
--- a settle after those before
+-- one more settle
 pub fed_by : {M : Type 0} (stored : M → Stored) (found : M → List Inst) (stands_for : M → List Rule → Type 0) (pre : M → Bor (List Change) → Type 0) (post : M → Bor (List Change) → Result (Settled M) OutOfMemory → Type 0)
     → Settles stored found stands_for pre post → (old : Feed M) (more : Bor (List Change)) (r : Result (Settled M) OutOfMemory) → post old.matcher more r → (s : Settled M) → r ≡ Ok s → (new : Feed M) → new.matcher ≡ s.matcher
     → ((before now after : List Inst) → IsSettled before now old.gone.items old.come.items → IsSettled now after s.gone.items s.come.items → IsSettled before after new.gone.items new.come.items)

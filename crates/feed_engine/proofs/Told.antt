@@ -1,4 +1,4 @@
--- A settle and an action beside it: what is told of both is what the action tells, or that memory ran out.
+-- A settle and an action beside it: the fault to report of both is the action's result, or out of memory.
 use Rattle.std.proofs.Common.{◌≡◌, ◌∙◌, ℕ, List, [], true, Some, None, Result, Ok, Err, sym, ap, subst}
 use Rattle.std.specs.Prelude.{IsErrAnd, OnOk}
 use Rattle.std.proofs.lemmas.Bool.{false≢true}
@@ -34,7 +34,7 @@ module _ {S Z : Type 0} (view : Z → Coming → S) (a b : Scene) (e : Coming �
       goes_on = tt;
     }
 
-    -- memory ran out beside it
+    -- the settle beside it ran out of memory
     short_beside : (acted : Result Z ActFault) → Acting acted → Telling (told_with_short acted)
     short_beside (Ok z) p = record {
       performs = record { taken = p.performs.taken; took = p.performs.took; performs = λ c comes. put_stopped a.port b.port (e _).bytes (p.performs.performs c comes).1 };
@@ -57,13 +57,13 @@ module _ {S Z : Type 0} (view : Z → Coming → S) (a b : Scene) (e : Coming �
     told_alone (Ok x) (Err g) f is p = let same : g ≡ f = cc in subst Telling same (same_fault g p)
     told_alone (Err w) acted f is p = let same : told_with_short acted ≡ f = cc in subst Telling same (short_beside acted p)
 
-    -- what is told of both is what the action does, or that memory ran out in it
+    -- the fault to report of both is the action's effect, or out of memory
     pub both_err : {X W : Type 0} (r : Result Y ActFault) (settled : Result X W) (acted : Result Z ActFault) (f : ActFault) → IsErrAnd r (λ g. g ≡ f) → told_of_both settled acted ≡ Some f
         → Does view failure_of is_read acted a b e → Does seen failure_of is_read r a b e
     both_err (Ok y) settled acted f h is p = absurd h
     both_err (Err g) settled acted f h is p = subst Telling (sym h) (told_alone settled acted f is p)
 
-  -- nothing is told
+  -- there is nothing to report
   pub both_ok : {X W Y : Type 0} (left : Coming → S) (y : Y) (settled : Result X W) (acted : Result Z ActFault) → told_of_both settled acted ≡ None → ((z : Z) (c : Coming) → view z c ≡ left c)
       → Does view failure_of is_read acted a b e → (let r : Result Y ActFault = Ok y in Does (λ _ c. left c) failure_of is_read r a b e)
   both_ok left y (Ok x) (Err g) is same p = absurd (cc)
@@ -75,7 +75,7 @@ module _ {S Z : Type 0} (view : Z → Coming → S) (a b : Scene) (e : Coming �
     goes_on = p.goes_on;
   }
 
--- what holds where the action is done
+-- what holds if the action was done
 pub both_on_ok : {X W Z : Type 0} {P : Type 0} (settled : Result X W) (acted : Result Z ActFault) → told_of_both settled acted ≡ None → OnOk acted P → P
 both_on_ok (Ok x) (Ok z) is p = p
 both_on_ok (Ok x) (Err g) is p = absurd (cc)
@@ -88,7 +88,7 @@ short_read (Err fault.Read) h = h
 short_read (Err fault.Write) h = absurd (false≢true h)
 short_read (Err fault.OutOfMemory) h = absurd (false≢true h)
 
--- a failed read that is told is one of the action
+-- a failed read that is reported is one of the action
 pub both_read : {X W Z : Type 0} (settled : Result X W) (acted : Result Z ActFault) (f : ActFault) → told_of_both settled acted ≡ Some f → is_read f ≡ true → fails_by is_read acted ≡ true
 both_read (Ok x) (Ok z) f is h = absurd (cc)
 both_read (Ok x) (Err g) f is h = let same : g ≡ f = cc in ap is_read same ∙ h

@@ -32,7 +32,8 @@ use Rattle.feed_engine.proofs.Going.{goes_lawful}
 use Rattle.feed_engine.proofs.Pieces.{rest_is_lawful, further_up}
 use Rattle.feed_engine.proofs.Told.{both_err}
 
--- a right side over a part of working memory with the elements of its instantiation is that over the whole
+-- over a part of working memory that has the elements of its instantiation, a right side does what it does over the
+-- whole
 pub over_whole : {X : Type 0} {view : X → Coming → Done} {r : Result X ActFault} {a b : Scene} (s : Setting) (i : Inst) (whole part : List Element) (last : ℕ) → WellKept whole last → All (λ t. 0 < t) (tags_of whole) → IsExcerpt whole part i.tags
     → Does view failure_of is_read r a b (right_side s i part last a) → Does view failure_of is_read r a b (right_side s i whole last a)
 over_whole {view = view} {r = r} {a = a} {b = b} s i whole part last well above excerpt p =
@@ -40,7 +41,7 @@ over_whole {view = view} {r = r} {a = a} {b = b} s i whole part last well above 
     let same : (d : Coming) → right_side s i part last a d ≡ right_side s i whole last a d = λ d. sym (excerpt_acts s a.port.out.column i whole part last a.names d well above excerpt) in
     subst P (λ n d. same d n) p
 
--- what was done, seen in more than that
+-- what was done, as a part of a larger result
 pub does_seen : {X : Type 0} (seen : X → Acted) {x : X} {names : Spellings} {a b : Scene} {e : Coming → Effect Misdeed Done} → (let r : Result Acted ActFault = Ok (seen x) in Does (λ y d. acted_of y names d) failure_of is_read r a b e)
     → (let r : Result X ActFault = Ok x in Does (λ x d. acted_of (seen x) names d) failure_of is_read r a b e)
 does_seen seen p = record {
@@ -73,7 +74,7 @@ does_paired {X = X} {Y = Y} {x = x} {y = y} {names = names} {a = a} {b = b} {e =
   goes_on = p.goes_on;
 }
 
--- a fault is that of what returns it
+-- a fault is that of the call that returns it
 pub does_err : {X Y : Type 0} {view : X → Coming → Done} {f : ActFault} {a b : Scene} {e : Coming → Effect Misdeed Done} (seen : Y → Coming → Done) (r : Result Y ActFault) → IsErrAnd r (λ g. g ≡ f)
     → (let given : Result X ActFault = Err f in Does view failure_of is_read given a b e) → Does seen failure_of is_read r a b e
 does_err {X = X} {view = view} {f = f} {a = a} {b = b} {e = e} seen r h p =
@@ -81,7 +82,7 @@ does_err {X = X} {view = view} {f = f} {a = a} {b = b} {e = e} seen r h p =
     let given : Result X ActFault = Err f in
     both_err view a b e seen r fine given f h refl p
 
--- memory ran out after all was done
+-- memory ran out after everything was done
 pub does_short : {X Y : Type 0} {view : X → Coming → Done} {x : X} {a b : Scene} {e : Coming → Effect Misdeed Done} (seen : Y → Coming → Done) (r : Result Y ActFault) → IsErrAnd r (λ g. g ≡ fault.OutOfMemory)
     → (let given : Result X ActFault = Ok x in Does view failure_of is_read given a b e) → Does seen failure_of is_read r a b e
 does_short {X = X} {view = view} {x = x} {a = a} {b = b} {e = e} seen r h p =
@@ -89,7 +90,7 @@ does_short {X = X} {view = view} {x = x} {a = a} {b = b} {e = e} seen r h p =
     let given : Result X ActFault = Ok x in
     both_err view a b e seen r short given fault.OutOfMemory h refl p
 
--- what was made is lawful, and is held where the rest was
+-- the changes are lawful, and their symbols are held if the others were
 pub made_lawful : {X : Type 0} (s : Setting) (i : Inst) (wm : List Element) (last : ℕ) {a b : Scene} (r : Result (Acted × X) ActFault) → Does (λ r d. acted_of r.0 b.names d) failure_of is_read r a b (right_side s i wm last a) → WellKept wm last
     → IfOk r (λ r. Lawful wm last r.0.changes)
 made_lawful {X = X} s i wm last {a = a} (Ok r) p well = (whole_lawful s i wm last a r.0 (does_told {X = Acted × X} (λ r. r.0) p) well).0

@@ -1,4 +1,4 @@
--- What does right sides and settles matchers by their changes: a closure, so that it may start threads.
+-- What executes right sides and settles matchers by their changes: a closure, so that it may start threads.
 use Rattle.std.specs.Prelude.{◌≡◌, ℕ, ◌<◌, ◌^◌, List, [], All, true, false, Option, Result, IfOk, IsTrue}
 use Rattle.std.specs.Borrow.{Bor, MutBor}
 use Rattle.ops_base.specs.declared.programs.Program.{Program}
@@ -22,8 +22,9 @@ use Rattle.work_store.specs.declared.matcher.Settled.{Settled}
 use Rattle.work_store.specs.Settling.{IsSettled}
 use Rattle.work_store.specs.Stored.{Stored}
 
--- It may be asked wherever an actor may be, and what it leaves is what an actor leaves (`cycle`, `Actor`). A source has
--- what is left of it and how many of its reads have failed, and a sink what it has taken and how many of its writes have.
+-- It may be called wherever an actor may be, and its effect is that of an actor (`cycle`, `Actor`). `left` is what is
+-- left of a source, and `unread` how many of its reads have failed. `taken` is what a sink has received, and
+-- `unwritten` how many of its writes have failed.
 pub record ActsBy {A M I K : Type 0} (stored : M → Stored) (found : M → List Inst) (stands_for : M → List Rule → Type 0) (left : I → Option (List ℕ)) (unread : I → ℕ) (taken : K → Option (List ℕ)) (unwritten : K → ℕ)
     (pre : A → Bor Program → MutBor Spellings → M → Bor Inst → ℕ → MutBor InputState → MutBor I → MutBor OutState → MutBor K → Type 0)
     (post : A → Bor Program → MutBor Spellings → M → Bor Inst → ℕ → MutBor InputState → MutBor I → MutBor OutState → MutBor K → Result (Acted × Settled M) ActFault → MutBor Spellings → MutBor InputState → MutBor I → MutBor OutState → MutBor K → Type 0) : Type 0 where

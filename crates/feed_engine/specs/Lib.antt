@@ -1,3 +1,3 @@
--- What the contracts of a phase that settles several times cite.
+-- What the contracts of a phase that settles several times refer to.
 pub mod Feeding
 pub mod Lent

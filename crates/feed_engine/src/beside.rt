@@ -26,7 +26,7 @@ use std::alloc::Global;
 use std::thread::{Threads, join_mut};
 use work_store::{Matcher, Settled, Store};
 
-/// What stands still while a right side is done.
+/// What does not change while a right side is executed.
 #[derive(Clone, Copy)]
 pub(crate) struct Ground<'a, R, H> {
     pub(crate) rt: &'a R,
@@ -58,7 +58,7 @@ fn copies(alloc: Global, changes: &[Change]) -> Result<Vec<Change>, OutOfMemory>
     Ok(copies)
 }
 
-/// What is told of an action where memory ran out in the settle beside it: a device's fault comes first.
+/// The fault to report of an action if the settle beside it ran out of memory: a device's fault comes first.
 fn told_with_short(acted: Result<(), ActFault>) -> ActFault
     ensures { result ≡ told_with_short acted }
 {
@@ -71,8 +71,8 @@ fn told_with_short(acted: Result<(), ActFault>) -> ActFault
     }
 }
 
-/// What is told of a settle and an action that were both done: a device's fault first, then that memory ran out in the
-/// settle, and then any other fault of the action.
+/// The fault to report of a settle and an action that ran beside each other: first a device's fault, then out of memory
+/// in the settle, and then any other fault of the action. If both succeeded, the settle's result.
 fn told_of_both<M: Matcher>(
     settled: Result<Feed<M>, OutOfMemory>,
     acted: Result<(), ActFault>,
@@ -89,7 +89,7 @@ fn told_of_both<M: Matcher>(
     }
 }
 
-/// Settles these changes, by the matcher that waits for them. It waits no more.
+/// Settles the matcher that waits by these changes, and takes it out of its place.
 fn settle_waiting<M: Matcher, H: Fn(M, &[Change]) -> Result<Settled<M>, OutOfMemory>>(
     alloc: Global,
     settle: &H,
@@ -107,7 +107,7 @@ fn settle_waiting<M: Matcher, H: Fn(M, &[Change]) -> Result<Settled<M>, OutOfMem
     }
 }
 
-/// Does the next action, which is this one.
+/// Executes the next action, which is this one.
 fn act_next<I: Source, K: Sink>(
     acting: &mut Acting<'_>,
     action: &Action,
@@ -135,8 +135,8 @@ fn act_next<I: Source, K: Sink>(
     acting.next(names, input, source, out, sink)
 }
 
-/// Settles these changes on a thread of its own, if one can be made, while the next action, which is this one, is done
-/// on this one. If none can be made, they are settled after the action.
+/// Settles these changes on a new thread, while this thread executes the next action, which is this one. If no thread
+/// can be started, they are settled after the action.
 pub(crate) fn settle_beside<
     R: Threads,
     M: Matcher + Send,
@@ -179,8 +179,8 @@ pub(crate) fn settle_beside<
     join_mut(ground.rt, &mut settle, &mut act)
 }
 
-/// Does the next action, which is this one. Where it asks for input after changes that are not settled, these are
-/// settled beside it. The answer has how many changes are settled.
+/// Executes the next action, which is this one. If it waits for input while changes are not settled, these are settled
+/// beside it. Also returns how many changes are settled.
 pub(crate) fn do_next<
     R: Threads,
     M: Matcher + Send,

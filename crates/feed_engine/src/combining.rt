@@ -10,7 +10,7 @@ use ops_base::memory::OutOfMemory;
 use ops_base::rules::Inst;
 use std::alloc::Global;
 
-/// What came into a conflict set and what went out of it, each in the order of rule and tags.
+/// The instantiations that came into a conflict set and those that left it, each list in the order of rule and tags.
 #[derive(Drop)]
 pub struct Changed {
     pub come: Vec<Inst>,
@@ -54,9 +54,10 @@ fn merged(first: Vec<Inst>, second: Vec<Inst>) -> Result<Vec<Inst>, OutOfMemory>
     Ok(all)
 }
 
-/// How the conflict set has changed after both of two settles in a row. What left and came back is in neither list, and
-/// what came and went again is not, either. Copies what is left, and looks for each that came in the first at all that
-/// went in the second, and so on: the lists are short where few changes were settled.
+/// How the conflict set has changed after both of two settles in a row. An instantiation that left and came back is in
+/// neither list, and neither is one that came and left again. Copies the entries of the result. Compares each
+/// instantiation that came in the first settle with all that left in the second, and so on: the lists are short if few
+/// changes were settled.
 pub fn combine(alloc: Global, first: Changed, second: Changed) -> Result<Changed, OutOfMemory>
     ensures { IfOk result (λ r. (before now after : List Inst) → IsSettled before now first.gone.items first.come.items
         → IsSettled now after second.gone.items second.come.items → IsSettled before after r.gone.items r.come.items) }

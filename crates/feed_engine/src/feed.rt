@@ -11,8 +11,8 @@ use ops_base::rules::Inst;
 use std::alloc::Global;
 use work_store::{Matcher, Settled};
 
-/// A matcher that has settled the first changes of a phase, with what came and what went since the phase began, each in
-/// the order of rule and tags.
+/// A matcher that has settled the first changes of a phase, with the instantiations that came and those that left since
+/// the phase began, each list in the order of rule and tags.
 #[derive(Drop)]
 pub(crate) struct Feed<M> {
     pub(crate) matcher: M,
@@ -21,7 +21,7 @@ pub(crate) struct Feed<M> {
 }
 
 impl<M: Matcher> Feed<M> {
-    /// Nothing is settled yet. Takes no memory.
+    /// Nothing is settled yet. Allocates nothing.
     pub(crate) fn new(alloc: Global, matcher: M) -> Feed<M>
         ensures matcher { result.matcher ≡ matcher }
         ensures come { result.come.items ≡ [] }
@@ -34,7 +34,7 @@ impl<M: Matcher> Feed<M> {
         }
     }
 
-    /// Settles these changes, which come next. It costs what the settle costs, and what `combine` costs.
+    /// Settles these changes, which come next. Its cost is that of the settle and of `combine`.
     pub(crate) fn settle<H: Fn(M, &[Change]) -> Result<Settled<M>, OutOfMemory>>(
         self,
         alloc: Global,
@@ -69,7 +69,7 @@ impl<M: Matcher> Feed<M> {
     }
 }
 
-/// Settles those of these changes that are not settled yet.
+/// Settles those of these changes that are not settled yet: all but the first `settled`.
 pub(crate) fn settle_rest<M: Matcher, H: Fn(M, &[Change]) -> Result<Settled<M>, OutOfMemory>>(
     alloc: Global,
     settle: &H,

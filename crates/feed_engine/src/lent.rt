@@ -1,4 +1,4 @@
-//! An actor that is lent how to act.
+//! `LentActor`, an actor that borrows the closure by which it acts.
 ghost use Rattle.std.specs.Prelude.{◌≡◌};
 ghost use Rattle.feed_engine.specs.Lent.{ActsBy};
 
@@ -12,7 +12,8 @@ use std::alloc::Global;
 use std::marker::PhantomData;
 use work_store::{Matcher, Settled};
 
-/// Does right sides, and settles matchers by their changes, as a closure does both. The closure may start threads.
+/// Executes right sides, and settles matchers by their changes, by calling a closure that does both. The closure may
+/// start threads.
 #[derive(Drop)]
 pub struct LentActor<'a, M, F> {
     act: &'a F,
@@ -20,7 +21,7 @@ pub struct LentActor<'a, M, F> {
 }
 
 impl<'a, M, F> LentActor<'a, M, F> {
-    /// This acts.
+    /// An actor that acts by this closure.
     pub fn new(act: &'a F) -> LentActor<'a, M, F>
         ensures { result.act.now ≡ act.now }
     {

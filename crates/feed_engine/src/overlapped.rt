@@ -31,8 +31,8 @@ use std::alloc::Global;
 use std::thread::Threads;
 use work_store::{Matcher, Settled, Store};
 
-/// Does the right side of an instantiation over these of its elements, and settles the matcher by its changes: those
-/// before an action that waits for input beside that action, and the rest at the end.
+/// Executes the right side of an instantiation over `part`, which has its elements, and settles the matcher by its
+/// changes: those before an action that waits for input beside that action, and the rest at the end.
 fn act_and_settle<
     R: Threads,
     M: Matcher + Send,
@@ -97,7 +97,7 @@ fn act_and_settle<
     Ok((acted, feed))
 }
 
-/// As `act_overlapped`, where `accept` stands after an action that may change working memory.
+/// The same as `act_overlapped`, for a right side with an `accept` after an action that may change working memory.
 fn act_beside<
     R: Threads,
     M: Matcher + Send,
@@ -144,10 +144,10 @@ fn act_beside<
     Ok((acted, settled))
 }
 
-/// Does the right side of an instantiation and its phase, as `InTurn` does them. If it asks for input after a change,
-/// what was changed before is settled on a thread of its own, if one can be made, while that action is done on this one.
-/// If it doesn't, it costs one look at its actions more than `InTurn`. Otherwise the elements of the instantiation are
-/// copied, and the changes that are settled beside an action.
+/// Executes the right side of an instantiation and its phase, with the result of `InTurn`. If an action waits for input
+/// after a change, the changes before it are settled on a new thread, if one can be started, while this thread executes
+/// that action. For this, the elements of the instantiation are copied, and so are the changes that are settled beside
+/// an action. If no action does, the cost is that of `InTurn` and one scan of the actions.
 pub fn act_overlapped<
     R: Threads,
     M: Matcher + Send,

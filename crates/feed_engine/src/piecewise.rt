@@ -21,8 +21,8 @@ use ops_io::{Input, Out, Sink, Source};
 use std::thread::Threads;
 use work_store::{Matcher, Settled};
 
-/// Does all actions of a right side, of which none is done yet. The answer has the matcher in the middle of its phase,
-/// and how many changes it has settled.
+/// Executes all actions of a right side, none of which is done yet. Returns the matcher in the middle of its phase, and
+/// how many changes it has settled.
 pub(crate) fn act_each<
     R: Threads,
     M: Matcher + Send,

@@ -1,4 +1,4 @@
--- What stood at a network is balanced with what is due behind it.
+-- The tokens of a network are balanced with what is due at the nodes that are appended to it.
 use Rattle.std.proofs.Common.{◌≡◌, ℕ, ◌+◌, ◌-◌, ◌<◌, ◌≤◌, Bool, true, false, cond, List, ◌++◌, pos, ◌+ℤ◌, length, slice_get, nat_le, Option, Some, None, refl, sym, ap, ap₂, subst, ◌∙◌, arith}
 use mathlib.Core.Path.{fun_ext}
 use Rattle.std.proofs.lemmas.Int.{ints}
@@ -32,7 +32,7 @@ same_some x y e = cc
 pub name_wm : (elements : Elements) (wm : List Element) → NamesWm elements wm → NameWm elements wm
 name_wm elements wm names tag e at = let m = member_of wm tag e at in subst (λ k. elements k ≡ Some e) m.1 (names e m.0)
 
--- past the nodes nothing stands
+-- there is no token at a node that does not exist
 pub nothing_past : (wm : List Element) (alphas : List Alpha) (nodes : List Node) (n : ℕ) → length nodes ≤ n → (s : Side) (t : List ℕ) → sums_over wm alphas nodes n s t ≡ pos 0
 nothing_past wm alphas nodes n le Left t = ap (λ o. pos (given_in wm alphas nodes left_giver o t)) (slice_get_past nodes n le)
 nothing_past wm alphas nodes n le Right t = ap (λ o. pos (given_in wm alphas nodes right_giver o t)) (slice_get_past nodes n le)
@@ -42,7 +42,7 @@ module _ (elements : Elements) (A more : List Alpha) (N C : List Node) (wm : Lis
   sums_old n Left t lt = ap pos (left_old A more N C sound wm n t lt)
   sums_old n Right t lt = ap pos (right_old A more N C sound wm n t lt)
 
-  -- the nodes that were there have just what they are given
+  -- the earlier nodes have exactly what they are given
   given_old : (n : ℕ) (s : Side) (t : List ℕ) → n < length N
       → put_out elements (N ++ C) (sums_over wm (A ++ more) (N ++ C)) (sums_over wm A N) (giver_of (N ++ C) n s) n s t ≡ sums_over wm A N n s t
   given_old n s t lt =
@@ -58,13 +58,13 @@ module _ (elements : Elements) (A more : List Alpha) (N C : List Node) (wm : Lis
           let low = giver_below A N sound n s p e in
           ap (λ o. pos (out_in elements o (standing_at (sums_over wm A N) p Left) (standing_at (sums_over wm A N) p Right) t)) (old_at N C p (omega (arith, low, lt)))
 
-  -- a node behind them has put nothing out
+  -- an appended node has had no output
   nothing_out : (p : ℕ) (t : List ℕ) → length N ≤ p → out_at elements (N ++ C) (sums_over wm A N) p t ≡ 0
   nothing_out p t le =
       ap₂ (λ (l : Tokens) (r : Tokens). out_in elements (slice_get (N ++ C) p) l r t) (fun_ext (λ u. ap standing (nothing_past wm A N p le Left u))) (fun_ext (λ u. ap standing (nothing_past wm A N p le Right u)))
       ∙ out_none elements (slice_get (N ++ C) p) t
 
-  -- so it is to get what the root and working memory give
+  -- so it must get what the root and working memory give
   given_new : (n : ℕ) (s : Side) (t : List ℕ) → length N ≤ n
       → pos (outside wm (A ++ more) (slice_get (N ++ C) n) s t) ≡ put_out elements (N ++ C) (sums_over wm (A ++ more) (N ++ C)) (sums_over wm A N) (giver_of (N ++ C) n s) n s t
   given_new n s t le = by_node (slice_get (N ++ C) n) refl

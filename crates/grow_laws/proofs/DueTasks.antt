@@ -30,7 +30,7 @@ use Rattle.step_core.proofs.Fed.{AllByRecursion-append}
 use Rattle.grow_laws.specs.Growing.{outside, AreDue}
 use Rattle.grow_laws.specs.Due.{root_tasks, element_tasks, tasks_of_node, tasks_from}
 
--- ---- of what node and side they are
+-- ---- their nodes and sides
 
 abbrev IsOf : ℕ → Task → Type 0
 IsOf n x = x.node ≡ n
@@ -125,7 +125,7 @@ module _ (alphas : List Alpha) (n : ℕ) (x : Node) where
   of_memory takes wm before (tag ∷ []) = by_tag takes tag wm before
   of_memory takes wm before (tag ∷ k ∷ ks) = longer (tag ∷ k ∷ ks) (λ j e. absurd (cc)) wm
 
-  -- a node that takes none gets none
+  -- a node that takes no elements gets none
   not_taken : takes_elements x.kind ≡ false → (es : List Element) → element_tasks alphas n x es ≡ []
   not_taken none [] = refl
   not_taken none (e ∷ es) = ap₂ (λ (b : Bool) (ts : List Task). cond (b && passes_in (slice_get alphas x.alpha) (Some e)) (right_task n e.tag ∷ []) [] ++ ts) none (not_taken none es)

@@ -1,4 +1,4 @@
--- Lines at rest are as well counted, and placed, for the network with more nodes.
+-- The counts of lines at rest, and the places of their tokens, are right for the larger network, too.
 use Rattle.std.proofs.Common.{◌≡◌, ◌≢◌, ℕ, ◌<◌, ◌≤◌, ◌%◌, Bool, true, false, List, [], ◌++◌, length, map, pos, fold, get_or, slice_get, nat_le, ◌==◌, Some, option_map, refl, sym, ap, ◌∙◌, arith, length-append}
 use Rattle.std.proofs.lemmas.Bool.Decides.{nat_tests}
 use Rattle.std.proofs.lemmas.Option.{slice_get-map, slice_get-get_or, slice_get_within}

@@ -1,4 +1,4 @@
--- Steps that do what is due lead to what stands at the network with more nodes.
+-- Steps that do what is due lead to the tokens of the larger network.
 use Rattle.std.proofs.Common.{◌≡◌, ◌≢◌, ℕ, suc, ◌<◌, List, [], ◌∷◌, ◌++◌, ◌+ℤ◌, refl, sym, ap, ap₂, subst, ◌∙◌, arith, option_map, sum_by, length, map, remove, slice_get, Option, Some, None, append-nil}
 use Rattle.std.specs.List.{AllByRecursion, Contains}
 use Rattle.std.proofs.lemmas.Int.{ints}
@@ -121,7 +121,7 @@ module _ (elements : Elements) (nodes : List Node) (line : Placing) (b : Bag) (w
     };
   }
 
--- ---- what is found by the tokens at terminals, among more nodes
+-- ---- the instantiations of the tokens at terminals, among more nodes
 
 module _ (alphas : List Alpha) (nodes all : List Node) (wm : List Element) (line : Placing) (bags : List Bag) (sound : IsSound alphas nodes) (rise : HasRisingTags wm)
     (hold : HoldJust line (sums_over wm alphas nodes) bags) (are : (n : ℕ) (x : Node) → slice_get nodes n ≡ Some x → slice_get all n ≡ Some x) where

@@ -7,7 +7,7 @@ use Rattle.net_base.specs.declared.tasks.Side.TheVariants.{Left}
 use Rattle.net_base.specs.declared.tasks.Task.{Task}
 use Rattle.step_core.specs.Machine.{task_at}
 
--- the empty token for node n, where the root gives to it
+-- the empty token for node n, if it is a child of the root
 abbrev pub root_tasks : ℕ → Option ℕ → List Task
 root_tasks n None = record { node = n; side = Left; plus = true; token = [] } ∷ []
 root_tasks n (Some p) = []
@@ -21,7 +21,7 @@ abbrev pub tasks_of_node : List Alpha → List Element → ℕ → Option Node �
 tasks_of_node alphas wm n None = []
 tasks_of_node alphas wm n (Some x) = root_tasks n x.parent ++ element_tasks alphas n x wm
 
--- for the nodes from `first` on that are below the bound
+-- for the nodes from `first` on, below the bound
 abbrev pub tasks_from : List Alpha → List Node → List Element → ℕ → ℕ → List Task
 tasks_from alphas nodes wm first zero = []
 tasks_from alphas nodes wm first (suc i) = tasks_from alphas nodes wm first i ++ (if nat_le first i then tasks_of_node alphas wm i (slice_get nodes i) else [])

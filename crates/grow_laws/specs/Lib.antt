@@ -1,3 +1,3 @@
--- Lines that hold what stood at an older network.
+-- Lines that hold the tokens of an older network.
 pub mod Growing
 pub mod Due

@@ -1,4 +1,4 @@
-//! The tasks that are due at the nodes that a network got behind its own.
+//! The tasks that are due at nodes that were appended to a network.
 ghost use Rattle.std.specs.Prelude.{◌≡◌, ◌++◌, ◌<◌, All, IfOk, true, OnOk, Some, length, slice_get};
 ghost use Rattle.token_line.specs.Held.{TaskFits};
 ghost use Rattle.step_core.specs.Machine.{is_fed, passes_in, task_at};
@@ -24,7 +24,7 @@ fn passes(alphas: &[Alpha], alpha: usize, element: &Element) -> bool
     }
 }
 
-/// Whether the node takes the element: a group and a terminal take none.
+/// Whether the node takes the element. A group and a terminal take none.
 fn is_fed(alphas: &[Alpha], node: &Node, element: &Element) -> bool
     ensures { result ≡ is_fed alphas.now (Some element.now) node.now }
 {
@@ -34,7 +34,7 @@ fn is_fed(alphas: &[Alpha], node: &Node, element: &Element) -> bool
     }
 }
 
-/// Adds the task of the element, if the node of this number takes it.
+/// Adds the task of the element, if the node with this number takes it.
 fn add_element(
     alloc: Global,
     alphas: &[Alpha],
@@ -57,7 +57,7 @@ fn add_element(
     Ok(())
 }
 
-/// Adds the empty token for the node of this number, if the root gives to it.
+/// Adds the empty token for the node with this number, if it is a child of the root.
 fn add_root(
     alloc: Global,
     node: &Node,
@@ -77,7 +77,7 @@ fn add_root(
     Ok(())
 }
 
-/// Adds a task for each element that the node of this number takes.
+/// Adds a task for each element that the node with this number takes.
 fn add_elements(
     alloc: Global,
     alphas: &[Alpha],
@@ -94,7 +94,7 @@ fn add_elements(
     Ok(())
 }
 
-/// Adds all that is due at the node of this number.
+/// Adds all tasks that are due at the node with this number.
 fn add_tasks(
     alloc: Global,
     alphas: &[Alpha],
@@ -109,9 +109,9 @@ fn add_tasks(
     add_elements(alloc, alphas, node, number, store, tasks)
 }
 
-/// What is due at the nodes from `first` on: the empty token at each one to which the root gives, and at each one that
-/// takes elements those of the store that pass its alpha. It walks over the store once for each of these nodes, and
-/// looks at no node before them.
+/// The tasks that are due at the nodes from `first` on: the empty token at each child of the root, and at each node
+/// that takes elements those of the store that pass its alpha. It walks over the store once for each of these nodes,
+/// and does not look at the nodes before them.
 pub fn tasks_due(
     alloc: Global,
     net: &Net,

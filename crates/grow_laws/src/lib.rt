@@ -1,5 +1,5 @@
-//! Growing in place: the laws of lines that hold what stood at a network before it got more nodes, and the tasks that
-//! are due then.
+//! Growing in place: the laws of lines that hold the tokens of a network from before nodes were appended to it, and the
+//! tasks that are due then.
 #![tactic(auto)]
 
 mod due;

@@ -1,4 +1,4 @@
--- Nodes at the front of a list: what stands behind them changes neither their widths nor their tokens.
+-- Nodes at the front of a list: nodes after them change neither their widths nor their tokens.
 use Rattle.std.proofs.Common.{◌≡◌, ℕ, zero, suc, ◌+◌, ◌<◌, ◌^◌, ◌&&◌, true, List, ◌++◌, length, slice_get, Option, Some, None, refl, ap, ap₂, subst, ◌∙◌, arith}
 use mathlib.Core.Path.{fun_ext}
 use Rattle.ops_base.specs.declared.elements.Element.{Element}
@@ -31,7 +31,7 @@ module _ (N C : List Node) where
   depth_old (Some p) low = ap depth_of (old_at p (low p refl))
 
   module _ (ord : AreOrdered N) where
-    -- ---- widths of those that were there
+    -- ---- widths of the earlier nodes
 
     width_below_old : (k n : ℕ) → n < length N → width_below k (N ++ C) n ≡ width_below k N n
     width_below_old zero n lt = refl
@@ -63,7 +63,7 @@ module _ (N C : List Node) where
 
 -- ---- tokens
 
--- what a side is given, by the nodes before it, and by working memory where that gives it
+-- the input of a side: the output of the nodes before it, and the elements of working memory if it takes them
 pub given_alike : (g : Giver) (memory memory' : Tokens) (outs outs' : ℕ → Tokens) (t : List ℕ) → (g ≡ Memory → memory t ≡ memory' t) → ((p : ℕ) (u : List ℕ) → g ≡ Out p → outs p u ≡ outs' p u)
     → given g memory outs t ≡ given g memory' outs' t
 given_alike Nothing memory memory' outs outs' t m o = refl
@@ -128,11 +128,11 @@ module _ (A more : List Alpha) (N C : List Node) (sound : IsSound A N) where
               (memory_old wm n x at u)
               (λ p v g. let low = kind_gives N ord n x at p g in let c : p < k = omega arith in let d : p < j = omega arith in let l : p < length N = omega arith in ih p v c d l)
 
-  -- what the nodes put out that were there
+  -- the output of the earlier nodes
   pub tokens_old : (wm : List Element) (n : ℕ) (t : List ℕ) → n < length N → tokens wm (A ++ more) (N ++ C) n t ≡ tokens wm A N n t
   tokens_old wm n t lt = tokens_below_old (2 ^ 64) (elements_of wm) wm (suc n) (suc n) n t (omega arith) (omega arith) lt
 
-  -- and what stands at their sides
+  -- and the tokens at their sides
   pub left_old : (wm : List Element) (n : ℕ) (t : List ℕ) → n < length N → left_tokens wm (A ++ more) (N ++ C) n t ≡ left_tokens wm A N n t
   left_old wm n t lt = ap (λ o. given_in wm (A ++ more) (N ++ C) left_giver o t) (old_at N C n lt) ∙ by (slice_get N n) refl
     where

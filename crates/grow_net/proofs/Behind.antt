@@ -1,4 +1,4 @@
--- Nodes that stand behind others: their widths, their children, and their tokens.
+-- Nodes that are appended to others: their widths, their children, and their tokens.
 use Rattle.std.proofs.Common.{◌≡◌, ℕ, zero, suc, ◌+◌, ◌<◌, ◌≤◌, ◌&&◌, Bool, true, false, cond, List, [], ◌∷◌, ◌++◌, length, map, slice_get, Option, Some, None, option_map, refl, sym, ap, ap₂, ◌∙◌, arith, append-nil, length-append}
 use Rattle.std.proofs.lemmas.List.{map-append, length-map}
 use Rattle.std.proofs.lemmas.Option.{slice_get_within}
@@ -52,7 +52,7 @@ module _ (N M : List Node) (rules : ℕ) (places : List ℕ) where
   abbrev mv : Node → Node
   mv = node_behind (length N) rules places
 
-  -- what stands at a place
+  -- the node at a place
   get_mapped : {X Y : Type 0} (f : X → Y) (xs : List X) (n : ℕ) → slice_get (map f xs) n ≡ option_map f (slice_get xs n)
   get_mapped f [] n = refl
   get_mapped f (x ∷ xs) zero = refl
@@ -80,7 +80,7 @@ module _ (N M : List Node) (rules : ℕ) (places : List ℕ) where
     mapped_none None n i lt = refl
     mapped_none (Some x) n i lt = ap (λ b. cond b (i ∷ []) []) (off n x lt)
 
-    -- a node that was there is named by those that were there
+    -- an earlier node is named by earlier nodes only
     pub named_old : (j n : ℕ) → n < length N → below f all (length N + j) n ≡ below f N (length N) n
     named_old zero n lt = ap (λ k. below f all k n) (let z : length N + 0 ≡ length N = omega arith in z) ∙ below_old (length N) n (omega arith)
     named_old (suc j) n lt =
@@ -96,7 +96,7 @@ module _ (N M : List Node) (rules : ℕ) (places : List ℕ) where
         by true = refl
         by false = refl
 
-    -- a node behind them by those behind them
+    -- an appended node by appended nodes only
     pub named_new : (j n : ℕ) → below f all (length N + j) (length N + n) ≡ map (λ c. length N + c) (below f M j n)
     named_new zero n =
         ap (λ k. below f all k (length N + n)) (let z : length N + 0 ≡ length N = omega arith in z)
@@ -170,7 +170,7 @@ module _ (N M : List Node) (rules : ℕ) (places : List ℕ) where
         ∙ (ap (λ k. below by_giver all k (length N + n)) many
         ∙ (named_new by_giver giver_low (λ m x l. giver_off x.kind m l) (λ m x. giver_same x.kind m) (length M) n ∙ ap (map (λ c. length N + c)) (sym (rights_are M (length M) n))))
 
-  -- ---- widths and depths of those behind them
+  -- ---- widths and depths of the appended nodes
 
   added_same : (k : Kind) → added_tags (kind_behind (length N) rules k) ≡ added_tags k
   added_same Join = refl

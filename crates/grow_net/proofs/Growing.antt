@@ -1,4 +1,4 @@
--- A network with another one behind it is sound, and is that of the productions of both.
+-- A network with another one appended to it is sound, and is that of the productions of both.
 use Rattle.std.proofs.Common.{◌≡◌, ℕ, zero, suc, ◌+◌, ◌<◌, ◌≤◌, cond, List, ◌++◌, length, map, slice_get, unwrap_or, Option, Some, None, option_map, refl, sym, ap, ap₂, subst, ◌∙◌, arith, length-append, ◌⊎◌, inl, inr, ◌↔◌}
 use Rattle.std.specs.Prelude.{All}
 use Rattle.std.proofs.lemmas.List.{length-map}
@@ -23,7 +23,7 @@ use Rattle.grow_net.proofs.Before.{AreOrdered, are_ordered, old_at, depth_old, l
 use Rattle.grow_net.proofs.Behind.{new_at, children_old, children_new, rights_old, rights_new, joins_same, depth_new, left_width_new, goes_up_new}
 use Rattle.grow_net.proofs.Standing.{takes_same, alpha_new, tokens_new}
 
--- a kind behind others, by what it was
+-- the kind of an appended node, by what it was
 terminal_same : (d rules : ℕ) (k : Kind) → is_terminal (kind_behind d rules k) ≡ is_terminal k
 terminal_same d rules Join = refl
 terminal_same d rules Negated = refl
@@ -129,7 +129,7 @@ module _ (A more B : List Alpha) (N M : List Node) (rules : ℕ) (places : List 
             });
       }
 
-  -- what stands at a place: one that was there, or one behind them
+  -- the node at a place: an earlier one, or an appended one
   pub record IsNew (n : ℕ) (y : Node) : Type 0 where
     pub place : ℕ
     pub node : Node
@@ -172,7 +172,7 @@ module _ (A more B : List Alpha) (N M : List Node) (rules : ℕ) (places : List 
         ∙ (sym (rights_new N M rules places ordA h.place) ∙ ap (rights_below all (length all)) (sym h.at)))
   ]
 
-  -- the rule of a node behind the others
+  -- the rule of an appended node
   new_rule : (n j : ℕ) (y : Node) (h : IsNew n y) → y.kind ≡ Terminal j → (r : ℕ) × (h.node.kind ≡ Terminal r) × (j ≡ rules + r)
   new_rule n j y h e = rule_behind (length N) rules j h.node.kind (sym (ap (λ (z : Node). z.kind) h.is) ∙ e)
 
@@ -199,7 +199,7 @@ module _ (A more B : List Alpha) (N M : List Node) (rules : ℕ) (places : List 
   pub grown_sound : IsSound (A ++ more) (N ++ map (node_behind (length N) rules places) M)
   grown_sound = record { each = each; children = children; rights = rights; one = one }
 
-  -- what gives to a node behind them stands behind them
+  -- the giver of an appended node is an appended node
   pub grown_apart : StandApart N (map (node_behind (length N) rules places) M)
   grown_apart = record {
     left = λ n p y at g. (let x = found n y at in left_of x.0.parent p (subst (λ (z : Node). giver_of_parent z.parent ≡ Out p) x.1 g));

@@ -1,4 +1,4 @@
--- Places among alphas that are known and those that come behind them.
+-- Places among alphas that are known and those that come after them.
 use Rattle.std.proofs.Common.{◌≡◌, ℕ, ◌+◌, ◌<◌, List, [], ◌∷◌, ◌++◌, length, slice_get, get_or, Some, sym, ap, subst, ◌∙◌, append-nil, append_assoc, length-append, ◌⊎◌, inl, inr}
 use Rattle.std.specs.Prelude.{Contains}
 use Rattle.ops_base.proofs.Members.{IsMember, member_from_contains, contains_from_member, member_cases}

@@ -1,4 +1,4 @@
--- What stands at nodes that stand behind others is what stood there alone.
+-- The tokens at appended nodes are those that these nodes had alone.
 use Rattle.std.proofs.Common.{◌≡◌, ℕ, zero, suc, ◌+◌, ◌<◌, ◌^◌, true, cond, List, ◌++◌, length, map, slice_get, unwrap_or, Option, Some, None, option_map, refl, ap, ap₂, ◌∙◌, arith}
 use mathlib.Core.Path.{fun_ext}
 use Rattle.ops_base.specs.declared.elements.Element.{Element}
@@ -38,7 +38,7 @@ given_kind d rules Negated memory memory' outs outs' t m h = m refl
 given_kind d rules (Group g w mm) memory memory' outs outs' t m h = h g w mm t refl
 given_kind d rules (Terminal r) memory memory' outs outs' t m h = refl
 
--- an alpha stands at its place
+-- an alpha is at its place
 pub alpha_new : (alphas added : List Alpha) (places : List ℕ) → ArePlaces alphas added places → (x : Node) → takes_elements x.kind ≡ true → x.alpha < length added → slice_get alphas (alpha_behind places x) ≡ slice_get added x.alpha
 alpha_new alphas added places are x takes lt =
     let c = are.count in

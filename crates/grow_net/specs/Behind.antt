@@ -1,4 +1,4 @@
--- A network placed behind another one: its nodes under higher numbers, and the alphas that the other one lacks.
+-- A network appended to another one: its nodes under higher numbers, and the alphas that the other one lacks.
 use Rattle.std.specs.Prelude.{◌≡◌, ◌<◌, ◌≤◌, ◌+◌, ◌^◌, ℕ, List, ◌++◌, map, length, slice_get, unwrap_or, Some, option_map, All, Contains, if◌then◌else◌}
 use Rattle.ops_base.specs.declared.rules.Rule.{Rule}
 use Rattle.net_base.specs.declared.nodes.Kind.{Kind}
@@ -80,8 +80,8 @@ pub record ArePlaces (alphas added : List Alpha) (places : List ℕ) : Type 0 wh
   pub count : length places ≡ length added
   pub each : (n p : ℕ) → slice_get places n ≡ Some p → slice_get alphas p ≡ slice_get added n
 
--- This alpha is at that place, among those that are known or those added behind them. What was added before stays,
--- and none of the added ones is known.
+-- This alpha is at that place, among those that are known or those added after them. What was added before stays, and
+-- none of the added ones is known.
 pub record AddsPlace (known old new : List Alpha) (a : Alpha) (p : ℕ) : Type 0 where
   pub rest : List Alpha
   pub grown : new ≡ old ++ rest

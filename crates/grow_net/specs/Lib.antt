@@ -1,3 +1,3 @@
--- Networks placed behind others.
+-- Networks appended to others.
 pub mod Behind
 pub mod Last

@@ -1,4 +1,4 @@
-//! The places of a network's alphas behind those of another network.
+//! The places of a network's alphas after those of another network.
 ghost use Rattle.std.specs.Prelude.{◌≡◌, ◌++◌, IfNone, IfOk, IfSome, OnOk, [], Some, slice_get, Contains};
 ghost use Rattle.grow_net.specs.Behind.{AddsPlace, ArePlaces, HaveNoneInCommon};
 
@@ -21,7 +21,7 @@ fn find(alphas: &[Alpha], alpha: &Alpha) -> Option<usize>
     None
 }
 
-/// Adds an alpha behind those that are known and those that were already added.
+/// Adds an alpha after those that are known and those that were already added.
 fn add(
     alloc: Global,
     known: &[Alpha],
@@ -37,7 +37,7 @@ fn add(
     Ok(place)
 }
 
-/// The place of an alpha among those that are known, or otherwise behind them.
+/// The place of an alpha among those that are known, or otherwise after them.
 fn place_of(
     alloc: Global,
     known: &[Alpha],
@@ -52,7 +52,7 @@ fn place_of(
     }
 }
 
-/// The places of the alphas of a network. Those that are not known are added behind those that are, in order. For
+/// The places of the alphas of a network. Those that are not known are added after those that are, in order. For
 /// each alpha it compares the classes of all that are known.
 pub(crate) fn places_of(
     alloc: Global,

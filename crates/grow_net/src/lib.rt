@@ -1,4 +1,4 @@
-//! What a network lacks for productions that are added to it: a chain of nodes of their own, behind all of its nodes.
+//! What a network lacks for productions that are added to it: a chain of nodes of their own, after all of its nodes.
 #![tactic(auto)]
 
 ghost use Rattle.std.specs.Prelude.{◌≡◌, ◌++◌, ◌+◌, ◌<◌, ◌≤◌, ◌^◌, ◌-◌, IfOk, length};
@@ -23,7 +23,7 @@ use ops_base::memory::OutOfMemory;
 use ops_base::programs::Program;
 use std::alloc::Global;
 
-/// The alphas and nodes that come behind those of a network.
+/// The alphas and nodes to append to those of a network.
 #[derive(Drop)]
 pub struct Growth {
     pub alphas: Vec<Alpha>,

@@ -1,4 +1,4 @@
--- Contents that files may have, by what is told of them.
+-- Contents that files may have, given what is known of them.
 use Rattle.std.proofs.Common.{◌≡◌, ℕ, suc, List, [], ◌∷◌, ◌++◌, length, Option, Some, None, refl, sym, ap, subst}
 use Rattle.joined_files.specs.Contents.{OfContent, OfContents}
 use Rattle.joined_files.specs.Loads.{IsTold}
@@ -10,7 +10,7 @@ AreTold told [] (c ∷ cs) = ⊥
 AreTold told (name ∷ names) [] = ⊥
 AreTold told (name ∷ names) (c ∷ cs) = IsTold (told name) c × AreTold told names cs
 
--- ---- what is told of one file
+-- ---- what is known of one file
 
 of_content : (known : Option (Option (List ℕ))) (P : Option (List ℕ) → Type 0) (c : Option (List ℕ)) → IsTold known c → P c → OfContent known P
 of_content None P c a p = (c, p)
@@ -24,7 +24,7 @@ pub any_content : (known : Option (Option (List ℕ))) → (c : Option (List ℕ
 any_content None = (None, tt)
 any_content (Some k) = (k, refl)
 
--- ---- what is told of all files
+-- ---- what is known of all files
 
 module _ (told : List ℕ → Option (Option (List ℕ))) where
   pub of_contents : (names : List (List ℕ)) (P : List (Option (List ℕ)) → Type 0) (cs : List (Option (List ℕ))) → AreTold told names cs → P cs → OfContents told names P
@@ -48,12 +48,12 @@ module _ (told : List ℕ → Option (Option (List ℕ))) where
       let rest = any_contents names in
       (one.0 ∷ rest.0, (one.1, rest.1))
 
-  -- what follows for some contents
+  -- what holds for some contents
   pub contents_map : (names : List (List ℕ)) (P Q : List (Option (List ℕ)) → Type 0) → ((cs : List (Option (List ℕ))) → P cs → Q cs) → OfContents told names P → OfContents told names Q
   contents_map names P Q f p =
       let some = contents_of names P p in of_contents names Q some.0 some.1 (f some.0 some.2)
 
-  -- what follows whatever the contents are
+  -- what holds for any contents
   pub contents_some : (names : List (List ℕ)) (P : List (Option (List ℕ)) → Type 0) (Q : Type 0) → ((cs : List (Option (List ℕ))) → P cs → Q) → OfContents told names P → Q
   contents_some names P Q f p = let some = contents_of names P p in f some.0 some.2
 

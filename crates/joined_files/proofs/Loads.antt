@@ -1,4 +1,4 @@
--- What the loads of files come to.
+-- The results of loading files.
 use Rattle.std.proofs.Common.{◌≡◌, ℕ, zero, suc, ◌+◌, ◌-◌, ◌<◌, ◌≤◌, List, [], ◌∷◌, ◌++◌, length, take, drop, get_or, cond, Bool, true, false, Option, Some, None, Result, Ok, Err, String, string_bytes, inl, inr, refl, sym, ap, ◌∙◌, subst, append_assoc, arith}
 use Rattle.std.specs.Prelude.{OnOk}
 use Rattle.std.specs.Result.{is_err}
@@ -17,7 +17,7 @@ use Rattle.joined_files.specs.declared.files.FilesFault.{FilesFault}
 use Rattle.joined_files.specs.declared.files.FilesFault.TheVariants as fault
 use Rattle.joined_files.proofs.Contents.{AreTold, of_contents, any_content, any_contents, contents_any, told_append, told_length}
 
--- ---- one file more
+-- ---- one more file
 
 joined_fits : (name text : List ℕ) (rest : List ℕ → Gathered) → length text ≤ longest_list → joined name text rest ≡ rest text
 joined_fits name text rest fits = rw (le-leb (length text) longest_list fits) refl
@@ -53,7 +53,7 @@ module _ (told : List ℕ → Option (Option (List ℕ))) (names : List (List �
     pub are : AreTold told (take count names) contents
     pub rest : (more : List (Option (List ℕ))) → gathered_all names (contents ++ more) ≡ gathered text parts (drop count names) more
 
-  -- what the files come to by contents that may be theirs
+  -- the result for contents that may be those of the files
   pub record Comes (cs : List (Option (List ℕ))) (g : Gathered) : Type 0 where
     pub are : AreTold told names cs
     pub gathers : gathered_all names cs ≡ g
@@ -77,7 +77,7 @@ module _ (told : List ℕ → Option (Option (List ℕ))) (names : List (List �
       goes : (c : Option (List ℕ)) (more : List (Option (List ℕ))) → gathered_all names (p.contents ++ c ∷ more) ≡ gathered text parts (name ∷ drop (i + 1) names) (c ∷ more)
       goes c more = p.rest (c ∷ more) ∙ ap (λ ns. gathered text parts ns (c ∷ more)) rest_is
 
-      -- these are the contents of all, whatever those after this one are
+      -- these are the contents of all files, whatever the files after this one contain
       all_are : (c : Option (List ℕ)) → IsTold (told name) c → AreTold told names (p.contents ++ c ∷ (any_contents told (drop (i + 1) names)).0)
       all_are c a =
           let after = any_contents told (drop (i + 1) names) in
@@ -119,7 +119,7 @@ module _ (told : List ℕ → Option (Option (List ℕ))) (names : List (List �
             ap (gathered_all names) (set_at p.contents one.0 after.0 None (i + 1 - 1) place) ∙ goes None after.0,
           )
 
--- ---- one part more
+-- ---- one more part
 
 pub parts_are : (parts new : List Part) (text : List ℕ) (n : ℕ) → new ≡ parts ++ record { file = length parts; first = n } ∷ [] → n ≡ length text → new ≡ with_part parts text
 parts_are parts new text n e is =
@@ -139,14 +139,14 @@ one_broken old new names before now i rose asked within =
     let loads : length new - length old ≡ i + 1 = grind (arith, length-append {A = List ℕ}, length-take-le {A = List ℕ}, ap (λ (ns : List (List ℕ)). length ns) asked) in
     rw (lt-ltb before now (omega arith)) (ap Some loads)
 
--- ---- what stands after a load of a file
+-- ---- what holds after a load of a file
 
 -- the name of an item
 pub name_is : {A : Type 0} (words : List (String A)) (i : ℕ) (item : String A) (name : List ℕ) → i < length words → item ≡ get_or words i item → name ≡ string_bytes item → name ≡ get_or (word_bytes words) i []
 name_is words i item name within is e =
     e ∙ ap string_bytes is ∙ sym (get_or-map string_bytes words i item [] within)
 
--- what is told of a file is told of it later
+-- what is known of a file is known of it later
 pub told_still : (told now : List ℕ → Option (Option (List ℕ))) (name : List ℕ) (c : Option (List ℕ)) → ((n : List ℕ) → now n ≡ told n) → IsTold (now name) c → IsTold (told name) c
 told_still told now name c same p = subst (λ (k : Option (Option (List ℕ))). IsTold k c) (same name) p
 
@@ -179,7 +179,7 @@ module _ (told : List ℕ → Option (Option (List ℕ))) (names asked : List (L
     come T fault.OutOfMemory after before now a same more =
         contents_any told names (λ cs. ComesTo fault.OutOfMemory (gathered_all names (readable cs (broken_load asked new before now)))) (λ cs. tt)
 
-    -- the next one can't be had
+    -- the next one can't be loaded
     pub none_comes : (T : Type 0) (f : FilesFault) (after : List ℕ) (before then now : ℕ) (known : Option (Option (List ℕ))) → known ≡ told name → then ≡ before
         → (let r : Result T FilesFault = Err f in Adds r known name text after) → (let r : Result T FilesFault = Err f in CountsUnread r then now)
         → (let r : Result T FilesFault = Err f in AsksFor r name mid new) → OfContents told names (λ cs. ComesTo f (gathered_all names (readable cs (broken_load asked new before now))))
@@ -195,7 +195,7 @@ module _ (told : List ℕ → Option (Option (List ℕ))) (names asked : List (L
       all_of_them = λ e. absurd (false≢true e);
     }
 
-    -- the files that were asked for then
+    -- the files that were asked for in that case
     pub asked_so_far : (T : Type 0) (f : FilesFault) → (let r : Result T FilesFault = Err f in AsksFor r name mid new) → AskedFor false names asked new
     asked_so_far T (fault.Unread of) more = one_asked more
     asked_so_far T (fault.TooLong of) more = one_asked more

@@ -9,7 +9,7 @@ use Rattle.joined_files.specs.Files.{Gathered, Joined, Unread, Overlong, ends_in
 use Rattle.joined_files.specs.Parts.{part_by, part_at}
 use Rattle.joined_files.specs.Ranges.{next_place, IsOfFile, PartsAreFiles}
 
--- ---- what files come to
+-- ---- the result of joining files
 
 abbrev text_in : Gathered → List ℕ
 text_in (Joined text parts) = text
@@ -80,7 +80,7 @@ drop_after (x ∷ xs) ys p = drop_after xs ys p
 
 -- ---- files
 
--- what stands there stays, and the next part begins where it ends
+-- the text so far stays, and the next part begins where it ends
 record Continues (text : List ℕ) (parts : List Part) (names : List (List ℕ)) (all : List ℕ) (all_parts : List Part) : Type 0 where
   more : List ℕ
   new : List Part

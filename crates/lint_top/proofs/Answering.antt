@@ -1,4 +1,4 @@
--- What a call that delivers a reply answers.
+-- The result of a call that delivers a reply.
 use Rattle.std.proofs.Common.{◌≡◌, ℕ, ◌+◌, ◌<◌, List, [], ◌∷◌, Bool, true, false, Option, Result, Ok, Err, refl, sym, ap, subst, ◌∙◌, inl, inr, arith}
 use Rattle.std.specs.Prelude.{if◌then◌else◌}
 use Rattle.joined_files.specs.declared.parts.Part.{Part}
@@ -18,7 +18,7 @@ use Rattle.lint_top.specs.Report.{Reply, report, reply_by, of_read, status_by}
 use Rattle.lint_top.specs.Whole.{are_files, answer_gathered, overlong, unread, whole, usage}
 use Rattle.lint_top.specs.Calls.{Answers, Delivers, TellsLoads, status_after, has_text}
 
--- ---- which statuses a reply has
+-- ---- the statuses of a reply
 
 -- what was written has such a status
 abbrev IsSaid : LintStatus → Type 0
@@ -26,7 +26,7 @@ IsSaid status.Unwritten = ⊥
 IsSaid status.OutOfMemory = ⊥
 IsSaid s = Unit {0}
 
--- so has what is said of files that were read
+-- so has the report about files that were read
 abbrev IsRead : LintStatus → Type 0
 IsRead status.Unwritten = ⊥
 IsRead status.OutOfMemory = ⊥
@@ -62,7 +62,7 @@ gathered_said names (Joined text parts) = said_status (report names text parts).
 gathered_said names (Unread name) = tt
 gathered_said names (Overlong name) = tt
 
--- ---- the answer
+-- ---- the result
 
 answers_in_full : (s : LintStatus) (o : Reply) (old new : Option (List ℕ)) (before now : ℕ) → IsSaid o.status → s ≡ o.status → GrewBy old new o.bytes → now ≡ before → Answers s o old before new now
 answers_in_full status.Clean o old new before now said e g n = (e, g, n)
@@ -78,7 +78,7 @@ delivers_by (Ok s) o old new before now said d = answers_in_full s o old new bef
 delivers_by (Err stop.Write) o old new before now said d = d
 delivers_by (Err stop.OutOfMemory) o old new before now said d = d
 
--- what is delivered is answered with the status after it
+-- the status after what is delivered is returned
 answers_by : (s : LintStatus) (r : Result LintStatus Stop) (o : Reply) (old new : Option (List ℕ)) (before now : ℕ) → IsSaid o.status → s ≡ status_after r → Delivers r o old before new now → Answers s o old before new now
 answers_by s r o old new before now said e d = subst (λ s. Answers s o old before new now) (sym e) (delivers_by r o old new before now said d)
 
@@ -98,7 +98,7 @@ module _ (words : List (List ℕ)) (contents : List (Option (List ℕ))) (broken
       subst (λ (o : Reply). Answers s o old before new now) (sym (chosen (are_files words) (answer_gathered words g) usage fit))
       (answers_by s r (answer_gathered words g) old new before now (gathered_said words g) e d)
 
-  -- they do not
+  -- they name none
   pub usage_answers : are_files words ≡ false → Delivers r usage old before new now → Answers s (whole words contents broken) old before new now
   usage_answers unfit d =
       subst (λ (o : Reply). Answers s o old before new now) (sym (left_out (are_files words) (answer_gathered words (gathered_all words (readable contents broken))) usage unfit))

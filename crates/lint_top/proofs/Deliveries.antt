@@ -1,4 +1,4 @@
--- What was put and written out is delivered.
+-- Bytes that were put and written out are delivered.
 use Rattle.std.proofs.Common.{◌≡◌, ℕ, List, [], ◌++◌, Option, Ok, Err, refl, sym, subst, ◌∙◌}
 use Rattle.ops_io.specs.Outside.{GrewBy, GrewByPrefix}
 use Rattle.ops_io.specs.Ports.{Port, Put, Stopped, Flushed, Cause}

@@ -1,4 +1,4 @@
--- Lines and columns of a text that stands after another one.
+-- Lines and columns of a text that follows another one.
 use Rattle.std.proofs.Common.{◌≡◌, ℕ, ◌+◌, ◌-◌, ◌≤◌, List, [], ◌∷◌, ◌++◌, length, take, drop, Bool, true, false, refl, sym, ap, cond, ◌∙◌, ◌⊎◌, inl, inr, arith}
 use Rattle.std.specs.Prelude.{◌==◌, not, reverse, take_while, count_by}
 use Rattle.std.proofs.Math.Seq.{take-add}
@@ -32,7 +32,7 @@ last_line (b ∷ c ∷ bs) e = elim (last_line (c ∷ bs) e) [
   | inr some ↦ inr (b ∷ some.0, ap (λ xs. b ∷ xs) some.1)
 ]
 
--- what is taken ends at an LF
+-- the bytes that are taken end with an LF
 stops : (xs ys : List ℕ) → take_while (λ b. not (b == 10)) (xs ++ 10 ∷ ys) ≡ take_while (λ b. not (b == 10)) xs
 stops [] ys = refl
 stops (x ∷ xs) ys =

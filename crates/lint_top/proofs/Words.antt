@@ -1,11 +1,11 @@
--- One word more.
+-- One more word.
 use Rattle.std.proofs.Common.{◌≡◌, ℕ, ◌+◌, ◌<◌, List, [], ◌∷◌, length, drop, get_or, Bool, true, false, refl, sym, ap, ◌∙◌}
 use Rattle.std.specs.Prelude.{◌&&◌}
 use Rattle.std.specs.List.{list_all}
 use Rattle.std.proofs.lemmas.List.{drop_more}
 use Rattle.lint_top.specs.Whole.{is_file}
 
--- the words from one on name files, where it does and those after it do
+-- the words from one on name files if it does and those after it do
 word_first : (words : List (List ℕ)) (i : ℕ) (word : List ℕ) → i < length words → word ≡ get_or words i [] → list_all is_file (drop i words) ≡ (is_file word && list_all is_file (drop (i + 1) words))
 word_first words i word within is =
     ap (list_all is_file) (drop_more words i [] within ∙ ap (λ w. w ∷ drop (i + 1) words) (sym is))

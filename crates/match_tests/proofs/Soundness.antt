@@ -1,5 +1,5 @@
--- A network is sound where a test of each of its nodes holds, and its last node is its one terminal. The test computes, so
--- that a network that stands written out is sound by `refl`.
+-- A network is sound if a test holds of each of its nodes and its last node is its only terminal. The test computes, so
+-- that a network that is written out is sound by `refl`.
 use Rattle.std.proofs.Common.{◌≡◌, ℕ, zero, suc, ◌+◌, ◌<◌, ◌≤◌, Bool, true, false, not, ◌&&◌, ◌||◌, ◌==◌, ltb, leb, List, [], ◌∷◌, length, slice_get, bytes_eq, Option, Some, None, refl, sym, ap, subst, ◌∙◌, arith, true≢false}
 use Rattle.std.specs.List.{All}
 use Rattle.std.proofs.lemmas.Bool.{leb-true}
@@ -24,7 +24,7 @@ right_of : (a b : Bool) → (a && b) ≡ true → b ≡ true
 right_of true b h = h
 right_of false b h = absurd (cc)
 
--- the second one holds where the first does, or where the first does not
+-- the second one holds if the first does, or if the first does not
 where_true : (a b : Bool) → (not a || b) ≡ true → a ≡ true → b ≡ true
 where_true true b h e = h
 where_true false b h e = absurd (cc)
@@ -63,7 +63,7 @@ is_group nodes n x Join = true
 is_group nodes n x Negated = true
 is_group nodes n x (Terminal rule) = true
 
--- node n is as it is to be; only the last one may be a terminal
+-- node n passes the test; only the last one may be a terminal
 abbrev is_sound_at : List Alpha → List Node → ℕ → Node → Bool
 is_sound_at alphas nodes n x =
     (parent_before n x.parent && (root_joins x.parent x.kind && (x.depth == depth_above nodes (deepest x.kind x.parent) + 1)))

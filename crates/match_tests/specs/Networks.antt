@@ -1,4 +1,4 @@
--- Small networks and their elements, at which tests do tasks.
+-- Small networks with their elements, for the tests.
 use Rattle.std.specs.Prelude.{ℕ, List, [], ◌∷◌, pos, Option, Some, None}
 use Rattle.ops_base.specs.declared.elements.Element.{Element}
 use Rattle.ops_base.specs.declared.values.Pred.TheVariants.{Eq}
@@ -9,7 +9,7 @@ use Rattle.net_base.specs.declared.nodes.Kind.{Kind}
 use Rattle.net_base.specs.declared.nodes.Kind.TheVariants.{Join, Negated, Terminal}
 use Rattle.net_base.specs.declared.nodes.Node.{Node}
 
--- an element whose one field is 7
+-- an element with one field, which is 7
 abbrev pub element_of : ℕ → ℕ → Element
 element_of tag class = record { tag = tag; class = class; fields = Whole (pos 7) ∷ [] }
 
@@ -29,7 +29,7 @@ same = record { field = 0; pred = Eq; place = 0; other = 0 }
 
 -- ---- nodes
 
--- a join of the elements of class 0 at the root
+-- a join of the elements of class 0, as a child of the root
 abbrev pub root_with : List ℕ → Node
 root_with children = record { kind = Join; parent = None; class = 0; alpha = 0; joins = []; children = children; rights = []; depth = 1 }
 

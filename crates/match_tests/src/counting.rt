@@ -17,7 +17,7 @@ impl Counting {
         }
     }
 
-    /// How many activations there were, and the sum of the numbers of their lines.
+    /// The number of activations, and the sum of the numbers of their lines.
     pub(crate) fn counted(&self) -> (u64, u64) {
         (
             self.calls.load(Ordering::SeqCst),

@@ -1,4 +1,4 @@
-//! Tests of the match, of what no clause says: what a line keeps, codes of tokens, and the calls of a gate.
+//! Tests of the match, for what no clause says: what a line keeps, codes of tokens, and the calls of a gate.
 #![tactic(auto)]
 
 #[cfg(test)]

@@ -1,4 +1,4 @@
-//! What a line keeps of tokens that come and go, and the codes of tokens, with ample memory.
+//! What a line keeps of tokens that are inserted and deleted, and the codes of tokens, with ample memory.
 ghost use Rattle.std.specs.Prelude.{◌≡◌, ◌%◌, IfOk, slice_index};
 ghost use Rattle.token_line.specs.Coded.{HasCodes};
 
@@ -18,7 +18,7 @@ use token_line::line::Line;
 use token_line::number::{code_of, line_of};
 use work_store::Store;
 
-// the token of these tags arrives or leaves at node 3
+// the token with these tags is inserted or deleted at node 3
 fn task_of(alloc: Global, side: Side, plus: bool, tags: &[u64]) -> Result<Task, OutOfMemory>
     ensures { IfOk result (λ x. x.token ≡ tags.now) }
 {
@@ -31,7 +31,7 @@ fn task_of(alloc: Global, side: Side, plus: bool, tags: &[u64]) -> Result<Task, 
     })
 }
 
-// the same on the left of a line where every third first tag has one code
+// the same on the left side of a line in which every third first tag has the same code
 fn bring(alloc: Global, line: &mut Line, plus: bool, tag: u64) -> Result<(), OutOfMemory>
     requires { HasCodes (λ t. slice_index t 0 % 3) line.old }
     ensures { HasCodes (λ t. slice_index t 0 % 3) line.new }
@@ -42,7 +42,7 @@ fn bring(alloc: Global, line: &mut Line, plus: bool, tag: u64) -> Result<(), Out
     line.add(alloc, code, &task, GhostTasks::none(alloc), 0)
 }
 
-// the token of each tag below a bound arrives, or leaves
+// the token of each tag below a bound is inserted, or deleted
 fn bring_all(alloc: Global, line: &mut Line, plus: bool, bound: u64) -> Result<(), OutOfMemory>
     requires { HasCodes (λ t. slice_index t 0 % 3) line.old }
     ensures { HasCodes (λ t. slice_index t 0 % 3) line.new }
@@ -53,7 +53,7 @@ fn bring_all(alloc: Global, line: &mut Line, plus: bool, bound: u64) -> Result<(
     Ok(())
 }
 
-// how many tokens are kept under a code, if any are
+// the number of tokens that are kept under a code, if there are any
 fn kept(line: &Line, code: u64) -> Option<usize> {
     let memory = line.memory(3, code)?;
     Some(memory.left().len())
@@ -69,7 +69,7 @@ fn what_goes_is_not_kept(rt: HostRuntime) -> Result<(), Fail> {
     Ok(())
 }
 
-// the code of the token of that tag at the second join
+// the code of the token with that tag at the second join
 fn code(alloc: Global, net: &Net, store: &Store, side: Side, tag: u64) -> Result<u64, OutOfMemory> {
     let task = Task {
         node: 1,
@@ -80,7 +80,7 @@ fn code(alloc: Global, net: &Net, store: &Store, side: Side, tag: u64) -> Result
     Ok(code_of(net, store, &task))
 }
 
-// 31 times the number of the node, and the value
+// 31 times the number of the node, plus the value
 #[test]
 fn equal_values_have_one_code(rt: HostRuntime) -> Result<(), Fail> {
     let net = pair(rt.alloc())?;
@@ -90,7 +90,7 @@ fn equal_values_have_one_code(rt: HostRuntime) -> Result<(), Fail> {
     Ok(())
 }
 
-// an element of class 1 whose one field is 7 more than 2^64
+// an element of class 1 with one field, which is 2^64 + 7
 fn wide_element(alloc: Global, tag: u64) -> Result<Element, OutOfMemory>
     ensures { IfOk result (λ e. e.tag ≡ tag) }
 {

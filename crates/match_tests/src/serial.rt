@@ -12,7 +12,7 @@ use std::alloc::Global;
 use std::test::Fail;
 use work_store::{Matcher, Settled};
 
-// the element 1 comes and goes, in the order of the picks
+// element 1 is added and removed, in the order of the picks
 fn passing<'a>(
     alloc: Global,
     gate: &'a Counting,
@@ -23,8 +23,8 @@ fn passing<'a>(
     engine.settle_by(alloc, &mut (), changes.as_slice(), picks)
 }
 
-// A delete before its insert leaves nothing, and gives no child. Two tasks are on line 0, that of the first join, and two
-// on line (31 + 7) % 4, that of the second one at the value 7.
+// A delete before its insert leaves nothing, and creates no task. Two tasks are on line 0, that of the first join, and
+// two on line (31 + 7) % 4, that of the second one for the value 7.
 #[test]
 fn deletes_come_first(rt: HostRuntime) -> Result<(), Fail> {
     let alloc = rt.alloc();
@@ -49,7 +49,7 @@ fn deletes_come_first(rt: HostRuntime) -> Result<(), Fail> {
     Ok(())
 }
 
-// the element 1 of the first class comes
+// element 1, of the first class, is added
 fn begun(alloc: Global, gate: &Counting) -> Result<Settled<SerialEngine<&Counting>>, OutOfMemory>
     ensures elements { IfOk result (λ s. s.matcher.store.elements ≡ element_of 1 0 ∷ []) }
     ensures last { IfOk result (λ s. s.matcher.store.last ≡ 1) }
@@ -59,7 +59,7 @@ fn begun(alloc: Global, gate: &Counting) -> Result<Settled<SerialEngine<&Countin
     engine.settle(alloc, &mut (), changes.as_slice())
 }
 
-// An element of the second class comes, which takes the instantiation away, and then goes.
+// An element of the second class is added, which removes the instantiation, and is then removed.
 fn blocked_for_a_moment<'a>(
     alloc: Global,
     engine: SerialEngine<&'a Counting>,

@@ -10,7 +10,7 @@ use std::test::Fail;
 use std::thread::Threads;
 use work_store::Settled;
 
-// two elements come
+// two elements are added
 fn two_come<'a, R: Threads + Wait + Sync>(
     rt: &R,
     alloc: Global,
@@ -24,8 +24,8 @@ fn two_come<'a, R: Threads + Wait + Sync>(
     engine.settle_freely(rt, alloc, changes.as_slice())
 }
 
-// Each pairs with each: two tasks at the first join, on line 0; two right and two left ones at the second join, on line
-// (31 + 7) % 4; and four at the terminal, that of the tags s and t on line ((2 * 31 + s) * 31 + t) % 4.
+// Each element pairs with each: two tasks at the first join, on line 0; two right and two left ones at the second join,
+// on line (31 + 7) % 4; and four at the terminal, that of the tags s and t on line ((2 * 31 + s) * 31 + t) % 4.
 #[test]
 fn workers_find_all_pairs(rt: HostRuntime) -> Result<(), Fail> {
     let alloc = rt.alloc();

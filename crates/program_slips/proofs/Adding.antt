@@ -1,4 +1,4 @@
--- One production more among those that have the conditions of an earlier one.
+-- One more production among those that have the conditions of an earlier one.
 use Rattle.std.proofs.Common.{◌≡◌, ℕ, List, ◌∷◌, ◌++◌, Option, sym, ap, ◌∙◌, append_assoc}
 use Rattle.ops_base.specs.declared.values.Sym.{Sym}
 use Rattle.ops_base.specs.declared.rules.Rule.{Rule}

@@ -124,7 +124,7 @@ second_is Gt q a b e = only_same_kind (λ r. are_of_two_kinds Gt a r b) refl ref
 second_is Ge q a b e = only_same_kind (λ r. are_of_two_kinds Ge a r b) refl refl refl refl refl refl q e
 second_is SameKind q a b e = only_same_kind (λ r. are_of_two_kinds SameKind a r b) refl refl refl refl refl refl q e
 
--- a value that passes the first test is a number, and the constant of the second is none
+-- a value that passes the first test is a number, and the constant of the second is not one
 first_is_whole : (p : Pred) (a b v : Value) → are_of_two_kinds p a SameKind b ≡ true → holds_of p v a ≡ true → (is_whole v ≡ true) × (not (is_whole b) ≡ true)
 first_is_whole Eq a b v e h = absurd (cc)
 first_is_whole Ne a b v e h = absurd (cc)
@@ -162,7 +162,7 @@ constants_exclude Gt q a b v e h k = others_exclude Gt q a b v h k e
 constants_exclude Ge q a b v e h k = others_exclude Ge q a b v h k e
 constants_exclude SameKind q a b v e h k = others_exclude SameKind q a b v h k e
 
--- a value of a choice that passes is there
+-- if a choice passes, one of its values does
 one_passes : (f : Value → Bool) (v : Value) (cs : List Value) → list_any (λ c. are_same v c) cs ≡ true → f v ≡ true → list_any f cs ≡ true
 one_passes f v [] e h = absurd (cc)
 one_passes f v (c ∷ cs) e h = elim (either (are_same v c) (list_any (λ c. are_same v c) cs) e) [
@@ -179,7 +179,7 @@ no_value_passes p q (Variable x) r v e h k = cc
 
 -- ---- elements
 
--- the value of its attribute passes the test, where that does not bind
+-- the value of its attribute passes the test, if that does not bind
 abbrev Passes : Element → Test → Type 0
 Passes e t = not t.binds ≡ true → passes_by t.pred t.operand (field_of e t.field) ≡ true
 

@@ -14,13 +14,13 @@ module _ {V : Type 0} (f : V → List ℕ) (s : List ℕ) where
       let P : ℕ → ℕ → Option ℕ = λ p n. cond (nat_lt p n) (Some p) None in
       ap (λ p. P p (length (map f keys))) (place-map f s keys) ∙ ap (λ n. P (position_or_len (λ v. bytes_eq s (f v)) keys) n) (length-map f keys)
 
-  -- what was met stays
+  -- what was met remains met
   pub met_stays : (keys : List V) (i : ℕ) → position (λ v. bytes_eq s (f v)) keys ≡ Some i → with_text (map f keys) s ≡ map f keys
   met_stays keys i e =
       let held : is_held (map f keys) s ≡ true = list_any_position (λ t. bytes_eq s t) (map f keys) ∙ ap is_some (met_map keys ∙ e) in
       ap (λ b. cond b (map f keys) (map f keys ++ s ∷ [])) held
 
-  -- what is inserted is there then
+  -- what is inserted is met afterwards
   pub met_new : (keys new : List V) (copy : V) → new ≡ cond (list_any (λ v. bytes_eq s (f v)) keys) keys (keys ++ copy ∷ []) → f copy ≡ s → map f new ≡ with_text (map f keys) s
   met_new keys new copy e is =
       ap (map f) e ∙ by (list_any (λ v. bytes_eq s (f v)) keys) ∙ ap (λ b. cond b (map f keys) (map f keys ++ s ∷ [])) (sym (any-map f (λ t. bytes_eq s t) keys))

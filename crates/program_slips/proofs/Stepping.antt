@@ -1,4 +1,4 @@
--- What is asked for and lacks, one more looked at.
+-- What is asked for and missing, after one more item.
 use Rattle.std.proofs.Common.{◌≡◌, List, [], ◌∷◌, ◌++◌, Bool, sym, ap, ◌∙◌, append_assoc}
 use Rattle.std.specs.Prelude.{if◌then◌else◌}
 use Rattle.ops_base.specs.declared.elements.Class.{Class}
@@ -18,7 +18,7 @@ one_step known next found new a rest adds knows =
     sym (append_assoc found one (lacking_by (known_with known a.class) rest)) ∙ ap (λ xs. xs ++ lacking_by (known_with known a.class) rest) (sym adds)
     ∙ ap (λ k. new ++ lacking_by k rest) (λ i g. sym (knows g) i)
 
--- what lacks at the start is what a program lacks
+-- what is missing at the start is what a program lacks
 pub begins : (classes : List Class) (rules : List Rule) (commands : List Command) (known : Given → Bool) (given : List Given) (asks found : List Ask)
     → ((g : Given) → known g ≡ is_given given g) → given ≡ given_of rules commands → asks ≡ asks_of classes rules commands → found ≡ lacking_by known asks
     → found ≡ lacking classes rules commands

@@ -1,4 +1,4 @@
--- The walk over the tokens of a production, a step at a time.
+-- The walk over the tokens of a production, one step at a time.
 use Rattle.std.proofs.Common.{◌≡◌, ℕ, ◌+◌, ◌≤◌, List, [], ◌∷◌, ◌++◌, length, Some, None, Ok, Err, Option, Bool, true, false, sym, ap, ◌∙◌, arith, append_assoc}
 use Rattle.std.proofs.lemmas.List.Elements.{All-append, All-nil, All-from_recursion}
 use Rattle.std.specs.Prelude.{All, codes, bytes_eq, nat_lt, ◌==◌, map, flat_map, ◌&&◌, not, if◌then◌else◌}
@@ -15,7 +15,7 @@ use Rattle.ops_grammar.specs.Words.{lexed}
 use Rattle.program_slips.specs.Lone.{plain, after_operator, after_word, begins_formula, named_by, named_among, at_start, name_in, again_by, lone_of, lone_among, lone_in}
 use Rattle.program_slips.specs.Walks.{LiesWithin, StandsBefore}
 
--- ---- the token that stands next
+-- ---- the next token
 
 pub one_stands : (text : List ℕ) (from : ℕ) (found : Option Token) → from ≤ length text → (let r : Next = Ok found in r ≡ token_at text from) → StandsBefore text from found
 one_stands text from None le is = ap (λ l. l.tokens) (lexed_none text from (sym is))
@@ -26,9 +26,9 @@ one_stands text from (Some t) le is =
 pub none_stands : (text : List ℕ) (from : ℕ) (f : LexFault) → (let r : Next = Err f in r ≡ token_at text from) → StandsBefore text from None
 none_stands text from f is = ap (λ l. l.tokens) (lexed_fault text from f (sym is))
 
--- ---- one token more
+-- ---- one more token
 
--- the variables of all tokens are those found, and those among the tokens from a place on, of which this one is the first
+-- the variables of all tokens are those found so far, and those among the tokens from this one on
 pub one_more : (text : List ℕ) (c next : Standing) (t : Token) (ts rest : List Token) (all found more : List Named)
     → all ≡ found ++ named_among text c ts → ts ≡ t ∷ rest → more ≡ found ++ named_by t.kind c t.first t.past
     → named_among text c (t ∷ rest) ≡ named_by t.kind c t.first t.past ++ named_among text next rest
@@ -55,7 +55,7 @@ operator_formula c s =
     (choice_formula c.literal (plain c) _ n same
     (choice_formula (bytes_eq s (codes "//")) (record c { literal = c.formula == 0; head = false }) _ n same same))
 
--- a word opens one of them at most
+-- a word opens at most one of them
 pub one_bracket : (k : TokenKind) (c : Standing) (s : List ℕ) → (after_word k c s).formula ≤ c.formula + 1
 one_bracket kind.Left c s =
     let more : c.formula + 1 ≤ c.formula + 1 = omega arith in
@@ -74,7 +74,7 @@ one_bracket kind.Symbol c s =
     choice_count (begins_formula c s) 1 c.formula (c.formula + 1) first same
 one_bracket kind.Quoted c s = omega arith
 
--- ---- where they stand
+-- ---- where they are
 
 one_lies : (text : List ℕ) (k : TokenKind) (c : Standing) (first past : ℕ) → first ≤ past → past ≤ length text → All (LiesWithin text) (named_by k c first past)
 one_lies text kind.Variable c first past ordered within = by (not c.choice && not c.literal)
@@ -96,7 +96,7 @@ pub all_lie : (text : List ℕ) (c : Standing) (t : Token) (found more : List Na
 all_lie text c t found more adds lies all =
     rw adds (All-append (LiesWithin text) found (named_by t.kind c t.first t.past) all (one_lies text t.kind c t.first t.past lies.ordered lies.within))
 
--- ---- those that stand once
+-- ---- those that occur once
 
 pub lone_is : (text : List ℕ) (named found : List Named) (again : List (List ℕ)) → found ≡ flat_map (lone_of text again) named
     → again ≡ again_by [] [] (map (name_in text) named) → named ≡ named_among text at_start (lexed text).tokens → found ≡ lone_in text

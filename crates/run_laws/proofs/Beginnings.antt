@@ -1,4 +1,4 @@
--- The bindings with which a right side begins are those with which the walk over its conditions came to its end.
+-- A right side begins with the bindings with which the walk over its conditions finished.
 use Rattle.std.proofs.Common.{◌≡◌, ℕ, ◌<◌, List, [], ◌∷◌, ◌++◌, map, Bool, true, false, cond, not, ◌==◌, Some, None, option_map, refl, ap, sym, ◌∙◌, subst, inl, inr, append_assoc, arith}
 use Rattle.std.specs.Prelude.{Contains, slice_get, unwrap_or}
 use Rattle.std.specs.List.{flat_map}
@@ -37,7 +37,7 @@ found_in (x ∷ wm) e a (inr m) =
     let apart : (x.tag == e.tag) ≡ false = grind (arith, nat_tests) in
     ap (λ b. cond b (Some x) (element_of wm e.tag)) apart ∙ found_in wm e a.1 m
 
--- what working memory has is found by its tag
+-- an element of working memory is found by its tag
 pub element_found : (wm : List Element) (e : Element) → HasRisingTags wm → IsMember e wm → element_of wm e.tag ≡ Some e
 element_found wm e rising m = found_in wm e (tags_in_order wm rising) m
 
@@ -69,7 +69,7 @@ past_positive wm c parts e ts bindings next positive found matched =
 abbrev pub classes_in : List Element → List ℕ
 classes_in es = map (λ e. e.class) es
 
--- what meets a condition is of its class
+-- an element that meets a condition is of its class
 matched_class : (c : Condition) (e : Element) (bindings next : List Binding) → match_of c e bindings ≡ Some next → e.class ≡ c.class
 matched_class c e bindings next is = by (e.class == c.class) refl is
   where
@@ -77,7 +77,7 @@ matched_class c e bindings next is = by (e.class == c.class) refl is
     by true same is = eqb-true e.class c.class same
     by false same is = absurd (cc)
 
--- What the walk finds goes on from one of these partial matches, with the bindings that the further tags give. The
+-- Each result of the walk continues one of these partial matches, with the bindings that the further tags give. The
 -- elements of these tags are in working memory.
 pub record Followed (wm : List Element) (parts : List Part) (ps : List Partial) (q : Partial) : Type 0 where
   pub from : Partial

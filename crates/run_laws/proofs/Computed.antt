@@ -1,4 +1,4 @@
--- What small formulas give and of what predicates hold, as the definitions compute it.
+-- The results of small formulas and of predicates, as computed from the definitions.
 use Rattle.std.proofs.Common.{refl}
 use Rattle.run_laws.specs.Computing.{SumsAre, QuotientsAre, OperandsAre}
 use Rattle.run_laws.specs.Predicates.{EqualityHolds, OrderHolds, KindHolds}

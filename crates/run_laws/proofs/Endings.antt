@@ -1,4 +1,4 @@
--- No session ends in a refused write or as out of memory, and in a read fault only if its input fails.
+-- No session ends with a refused write or out of memory. It ends with a read fault only if its input fails.
 use Rattle.std.proofs.Common.{ℕ, Bool, List, Result, Ok, Err, MatchResult}
 use Rattle.ops_base.specs.declared.commands.Command.{Command}
 use Rattle.ops_base.specs.declared.endings.Ending.{Ending}

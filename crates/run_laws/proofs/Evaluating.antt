@@ -89,7 +89,7 @@ module _ (P : List Binding → List Element → List Change → List Element →
       ok_on Keeps Keeps e.bytes e.outcome (λ d. items_done classes (lead_after x) (column_after column e.bytes) items d) (item_keeps lead column x d p)
       (λ d q. items_keep (lead_after x) (column_after column e.bytes) items d q)
 
--- a term leaves what the terms after it look at
+-- a term leaves unchanged what the terms after it examine
 pub sees_the_same : (classes : List Class) (t : Term) (d : ActState) → IfOk (evaluated classes t d) (λ v. SeesTheSame d v.doing)
 sees_the_same classes t d =
     evaluated_keeps (λ bindings elements changes wm. (bindings ≡ d.bindings) × (elements ≡ d.cells) × (changes ≡ d.changes) × (wm ≡ d.wm)) classes t d (refl, refl, refl, refl)

@@ -1,4 +1,4 @@
--- What `excise` leaves, and which names it tells.
+-- What `excise` leaves, and which names it reports.
 use Rattle.std.proofs.Common.{◌≡◌, ℕ, zero, suc, ◌+◌, ◌-◌, List, [], ◌∷◌, ◌++◌, map, length, fold, Bool, true, false, cond, not, ◌==◌, ◌&&◌, ◌||◌, if◌then◌else◌, Option, Some, None, is_some, option_map, unwrap_or, Result, Ok, Err, IfOk, refl, ap, sym, ◌∙◌, subst, arith, nat_lt, ⊎_elim}
 use Rattle.std.specs.Prelude.{filter, slice_get, option_and_then}
 use Rattle.std.specs.List.{cons_option, filter_map, list_any, position, position_or_len}
@@ -211,7 +211,7 @@ module _ (p : Rule → Bool) where
       by None e = ap P e ∙ sym (all_stay rules (sym (position_some p rules) ∙ ap is_some e))
       by (Some a) e = ap P e ∙ (one_goes rules a once e).0
 
-  -- under its new number stands the same
+  -- under its new number is the same production
   pub beside_found : {X : Type 0} (rules : List Rule) (xs : List X) (n m : ℕ) → left_number p rules n ≡ Some m → slice_get (left_beside p rules xs) m ≡ slice_get xs n
   beside_found rules [] n m e = refl
   beside_found [] (x ∷ xs) n m e =
@@ -248,7 +248,7 @@ module _ (p : Rule → Bool) where
           ap (λ b. slice_get (if b then left_beside p rules xs else x ∷ left_beside p rules xs) m) g
           ∙ ap (slice_get (x ∷ left_beside p rules xs)) (sym same) ∙ later j f
 
-  -- just those have a number that do not go
+  -- exactly those that do not go have a number
   pub numbered : (rules : List Rule) (n : ℕ) (r : Rule) → slice_get rules n ≡ Some r → is_some (left_number p rules n) ≡ not (p r)
   numbered [] n r e = absurd (cc)
   numbered (s ∷ rules) zero r e =
@@ -264,7 +264,7 @@ module _ (p : Rule → Bool) where
       by false None rest = rest
       by false (Some m) rest = rest
 
-  -- the productions themselves stand so
+  -- the same of the productions themselves
   pub filter_beside : (rules : List Rule) → filter (λ r. not (p r)) rules ≡ left_beside p rules rules
   filter_beside [] = refl
   filter_beside (r ∷ rules) = by (p r) (filter_beside rules)
@@ -454,7 +454,7 @@ all_out (name ∷ names) k apart =
     ∙ all_out names (left_by (has_this name) k) (apart_filter (λ r. not (has_this name r)) k.rules apart)
     ∙ then_left (has_this name) (is_named names) (is_named (name ∷ names)) (λ r. refl) k
 
--- ---- which names are told
+-- ---- which names are reported
 
 or_turned : (a b : Bool) → (a || b) ≡ (b || a)
 or_turned true true = refl
@@ -553,7 +553,7 @@ excised_is s limit column names k apart =
     ap (λ ns. writes (written ns) (fold (λ k name. taken_out_named name k) k names)) (told k.rules names apart)
     ∙ ap (λ j. writes (written (names_told k.rules [] names)) j) (all_out names k apart)
 
--- ---- names stay apart
+-- ---- names stay distinct
 
 not_left : (name : Sym) (rules : List Rule) → list_any (has_this name) (filter (λ r. not (has_this name r)) rules) ≡ false
 not_left name [] = refl
@@ -666,7 +666,7 @@ pub session_apart : (s : Setting) (limit : ℕ) (before after : List Command) (n
 session_apart s limit before after names coming h =
     commands_apart s limit 0 before (begun before s.rules names coming) (and_parts _ _ h.1).1
 
--- ---- the order in which they stand
+-- ---- their order
 
 one_order : (name : Sym) (k : Session) → HasRisingTags k.course.wm → AreNamedApart k.rules → ranking_in (left_by (has_this name) k) ≡ filter_map (left_inst (has_this name) k.rules) (ranking_in k)
 one_order name k rising apart = by (position (has_this name) k.rules) refl

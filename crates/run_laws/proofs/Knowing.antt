@@ -1,4 +1,4 @@
--- What the validity of a right side takes as known is so in each state that it comes to.
+-- What the validity of a right side assumes as known is true in each state that is reached.
 use Rattle.std.proofs.Common.{◌≡◌, ℕ, zero, suc, ◌<◌, List, [], ◌∷◌, ◌++◌, map, length, fold, Bool, true, false, cond, ◌==◌, ◌&&◌, ◌||◌, Option, Some, None, is_some, Ok, IfOk, refl, ap, sym, ◌∙◌, subst, nat_lt, slice_get, unwrap_or, arith}
 use Rattle.std.specs.Prelude.{slice_set}
 use Rattle.std.specs.List.{list_all, list_any}
@@ -48,7 +48,7 @@ class_set [] n e same = refl
 class_set (x ∷ es) zero e same = ap (λ c. c ∷ class_numbers es) same
 class_set (x ∷ es) (suc n) e same = ap (λ cs. x.class ∷ cs) (class_set es n e same)
 
--- what is within a list is there
+-- an index within a list has an item
 there_within : {X : Type 0} (xs : List X) (n : ℕ) → n < length xs → is_some (slice_get xs n) ≡ true
 there_within [] n h = absurd (omega arith)
 there_within (x ∷ xs) zero h = refl
@@ -93,14 +93,14 @@ bound_more vs bindings b h v m =
 
 -- ---- what is known
 
--- What was made last, where one was made, is of this class, which is there.
+-- The element that was made last, if one was made, is of this class, which exists.
 pub record IsMade (classes : List Class) (changes : List Change) (c : ℕ) : Type 0 where
   pub one : list_any is_add changes ≡ true
   pub class : (made_last changes).class ≡ c
   pub exists : nat_lt c (length classes) ≡ true
 
--- The variables in sight are bound, the cells hold elements of these classes, all of which are there, and what was made
--- last is of the class that is known.
+-- The variables in sight are bound, the cells hold elements of these classes, all of which exist, and the element that
+-- was made last is of the class that is known.
 pub record Holds (classes : List Class) (k : Known) (bindings : List Binding) (elements : List Element) (changes : List Change) : Type 0 where
   pub variables : AreBound k.bound bindings
   pub cells : class_numbers elements ≡ k.cells
@@ -221,7 +221,7 @@ module _ (classes : List Class) where
     all_removed [] d p = p
     all_removed (c ∷ cells) d p = all_removed cells (removed d (cell_of d c).tag) (removed_knows (cell_of d c).tag d p)
 
-    -- an element was made, of a class that is there
+    -- an element was made, of a class that exists
     added_knows : (d : ActState) (class : ℕ) (fields : List Value) → nat_lt class (length classes) ≡ true → Knows k d → Knows (record k { made = Some class }) (added d class fields)
     added_knows d class fields exists p = record {
       variables = p.variables;
@@ -264,11 +264,11 @@ module _ (classes : List Class) where
           made = p.made;
         }
 
--- the same, whatever working memory is
+-- the same for any working memory
 abbrev HoldsIn : List Class → Known → List Binding → List Element → List Change → List Element → Type 0
 HoldsIn classes k bindings elements changes wm = Holds classes k bindings elements changes
 
--- a valid action leaves what is known after it
+-- after a valid action, what is known of it is true
 pub action_knows : (s : Setting) (column : ℕ) (k : Known) (a : Action) (d : ActState) → Knows s.classes k d → action_is_valid s.classes k a ≡ true → IfOk (action_done s column a d).outcome (Knows s.classes (known_after k a))
 action_knows s column k (action.Make class puts) d p h =
     let parts = and_parts (nat_lt class (length s.classes)) (puts_are_valid s.classes k (class_of s.classes class) puts) h in
@@ -294,7 +294,7 @@ action_knows s column k (action.Cbind cell) d p h =
 action_knows s column k action.Halt d p h = record { variables = p.variables; cells = p.cells; exist = p.exist; made = p.made }
 action_knows s column k (action.Build template holes) d p h = p
 
--- So valid actions find all that they name, one after another.
+-- So valid actions find everything that they name, one after another.
 pub actions_find : (s : Setting) (column : ℕ) (k : Known) (actions : List Action) (d : ActState) → Knows s.classes k d → actions_are_valid s.classes k actions ≡ true → AllFind s column actions d
 actions_find s column k [] d p h = tt
 actions_find s column k (a ∷ rest) d p h =

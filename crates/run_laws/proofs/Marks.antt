@@ -43,7 +43,7 @@ set_within n (r ∷ rules) wm i m =
         omega (arith, same)
     by later (inr h) = let within = later h in omega (arith, within)
 
--- so marks that are kept at the end of a phase are
+-- so are the marks that are kept at the end of a phase
 marks_kept : (rules : List Rule) (wm : List Element) (fired : List Inst) → AreOf rules (still_fired (conflict_set rules wm) fired)
 marks_kept rules wm fired =
     all_from_members (λ (i : Inst). i.rule < length rules) (still_fired (conflict_set rules wm) fired)

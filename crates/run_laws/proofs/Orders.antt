@@ -1,4 +1,4 @@
--- In which order stands what stands, where a production goes or comes.
+-- The order of the instantiations that stand, if a production is removed or added.
 use Rattle.std.proofs.Common.{◌≡◌, ℕ, zero, suc, ◌≤◌, ◌<◌, List, [], ◌∷◌, ◌++◌, length, Bool, true, false, not, ◌==◌, if◌then◌else◌, Option, Some, None, option_map, unwrap_or, refl, sym, ap, ◌∙◌, subst, inl, inr, arith}
 use Rattle.std.specs.Prelude.{filter, get_or, All, Contains}
 use Rattle.std.specs.List.{cons_option, filter_map}
@@ -61,7 +61,7 @@ module _ {X Y : Type 0} (f : X → Option Y) where
         rest,
       )
 
--- ---- a production goes
+-- ---- a production is removed
 
 standing_members : (rules : List Rule) (m : Course) → HasRisingTags m.wm → (i : Inst)
     → (IsMember i (standing_by (conflict_set rules) rules m) → IsMember i (unfired (conflict_set rules m.wm) m.fired))
@@ -78,7 +78,7 @@ standing_before : (rules : List Rule) (m : Course) → HasRisingTags m.wm → Al
 standing_before rules m rising =
     before_from_all_pairs (Over m.strategy rules) (standing_by (conflict_set rules) rules m) (standing_ranked rules m rising).order
 
--- the new number with which an instantiation moved
+-- the new number of an instantiation's production
 moved_by : (n : ℕ) (i j : Inst) → moved_inst n i ≡ Some j → (a : ℕ) × (moved n i.rule ≡ Some a) × (renumbered i a ≡ j)
 moved_by n i j e = by (moved n i.rule) refl
   where
@@ -99,7 +99,7 @@ over_moved g rules n i j v w e f over =
     let here : dominates g (without n rules) (renumbered i a.0) (renumbered j b.0) ≡ true = dominance_stays g rules n a.0 b.0 i j a.1 b.1 ∙ over in
     subst (λ x. P v x) b.2 (subst (λ x. P x (renumbered j b.0)) a.2 here)
 
--- the ranking where a production goes, for any course that is left of this one
+-- the ranking if a production is removed, for any course that results from this one
 pub order_without : (n : ℕ) (rules : List Rule) (m : Course) → HasRisingTags m.wm
     → (let after = record m { fired = moved_insts n m.fired } in standing_by (conflict_set (without n rules)) (without n rules) after ≡ moved_insts n (standing_by (conflict_set rules) rules m))
 order_without n rules m rising =
@@ -131,7 +131,7 @@ order_without n rules m rising =
     same : unfired (conflict_set (without n rules) m.wm) (moved_insts n m.fired) ≡ moved_insts n insts
     same = stands_without n rules m.wm m.fired
 
--- ---- a production comes
+-- ---- a production is added
 
 without_last : (r : Rule) (rules : List Rule) → without (length rules) (rules ++ r ∷ []) ≡ rules
 without_last r [] = refl
@@ -152,7 +152,7 @@ marks_under n (i ∷ insts) h =
     ap (λ o. cons_option (option_map (renumbered i) o) (moved_insts n insts)) (moved_under n i.rule (All-head (λ (x : Inst). x.rule < n) i insts h))
     ∙ ap (λ is. i ∷ is) (marks_under n insts (All-tail (λ (x : Inst). x.rule < n) i insts h))
 
--- where none has a greater number, those stay that have not this one
+-- if none has a greater number, those without this number stay
 others_under : (n : ℕ) (insts : List Inst) → ((i : Inst) → IsMember i insts → i.rule ≤ n) → moved_insts n insts ≡ filter (λ i. not (i.rule == n)) insts
 others_under n [] h = refl
 others_under n (i ∷ insts) h =
@@ -208,7 +208,7 @@ added_order r k rising absent under =
     ap (λ o. filter (λ i. not (i.rule == length k.rules)) (ranking_in (let left = unwrap_or (option_map (λ n. taken_out n k) o) k in record (trail_emptied left) { rules = left.rules ++ r ∷ []; breaks = left.breaks ++ false ∷ [] }))) absent
     ∙ order_with r k.rules k.course rising under
 
--- ---- one comes for another
+-- ---- one replaces another
 
 new_within : (n m a : ℕ) (rules : List Rule) → moved n m ≡ Some a → m < length rules → a < length (without n rules)
 new_within n m a [] e under = absurd (omega (arith, under))
@@ -216,7 +216,7 @@ new_within n m a (r ∷ rules) e under =
     slice_get_within (without n (r ∷ rules)) a (get_or (r ∷ rules) m r)
     (without_get n m a (r ∷ rules) e ∙ slice_get-get_or (r ∷ rules) m r under)
 
--- marks of productions that stay are of those that are left
+-- marks of productions that stay are marks of those that are left
 pub marks_left : (n : ℕ) (rules : List Rule) (insts : List Inst) → AreOf rules insts → AreOf (without n rules) (moved_insts n insts)
 marks_left n rules [] h = All-nil (λ (i : Inst). i.rule < length (without n rules))
 marks_left n rules (i ∷ insts) h =

@@ -1,4 +1,4 @@
--- Parts of an effect that leave this where they come to no end, and tests of all items of a list.
+-- Parts of an effect with a property of what they leave if they do not end it, and tests of all items of a list.
 use Rattle.std.proofs.Common.{◌≡◌, ℕ, List, [], ◌∷◌, Bool, true, Result, Ok, Err, IfOk, MatchResult, refl}
 use Rattle.std.specs.List.{list_all}
 use Rattle.std.proofs.lemmas.Bool.{and_parts, and_from}

@@ -1,4 +1,4 @@
--- Values that are placed from a field on that is not past the end stand there, and the others stay.
+-- If values are placed from a field on that is not past the end, they are in those fields, and the others stay.
 use Rattle.std.proofs.Common.{◌≡◌, ℕ, zero, suc, ◌+◌, ◌<◌, ◌≤◌, List, [], ◌∷◌, ◌++◌, length, Bool, true, false, cond, Option, Some, None, refl, ap, sym, ◌∙◌, subst, inl, inr, ◌⊎◌, nat_lt, slice_get, arith}
 use Rattle.std.specs.Prelude.{slice_set, option_and_then}
 use Rattle.std.proofs.lemmas.Bool.{ltb-true, ltb-false}
@@ -39,7 +39,7 @@ push_elsewhere (y ∷ xs) zero x h = refl
 push_elsewhere (y ∷ xs) (suc k) x (inl h) = push_elsewhere xs k x (inl (omega arith))
 push_elsewhere (y ∷ xs) (suc k) x (inr h) = push_elsewhere xs k x (inr (omega arith))
 
--- one value stands at its field
+-- one value is in its field
 record Stands (at : ℕ) (v : Value) (fields next : List Value) : Type 0 where
   here : slice_get next at ≡ Some v
   elsewhere : (k : ℕ) → (k < at) ⊎ (at < k) → slice_get next k ≡ slice_get fields k

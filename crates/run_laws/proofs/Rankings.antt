@@ -98,9 +98,9 @@ only_ranking rules m other rising p =
     (λ i k. member_from_contains i list ((q.members i).1 ((p.members i).0 (contains_from_member i other k))))
     (λ i k. member_from_contains i other ((p.members i).1 ((q.members i).0 (contains_from_member i list k))))
 
--- ---- what dominance looks at
+-- ---- what dominance examines
 
--- the tags of an instantiation begin with one, where the first condition is positive
+-- an instantiation has a first tag if the first condition is positive
 first_tag_there : (wm : List Element) (parts : List Part) (tags : List ℕ) → first_is_positive parts ≡ true → Meets wm parts [] tags → is_some (slice_get tags 0) ≡ true
 first_tag_there wm [] tags h i = absurd (cc)
 first_tag_there wm (Group cs ∷ parts) tags h i = absurd (cc)

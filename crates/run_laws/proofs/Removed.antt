@@ -1,4 +1,4 @@
--- A removal names an element that is there, so that a trace can show it.
+-- A removal names an element that is present, so that a trace can show it.
 use Rattle.std.proofs.Common.{◌≡◌, ℕ, List, [], ◌∷◌, ◌++◌, map, length, drop, fold, Bool, true, false, cond, ◌==◌, ◌||◌, Some, is_some, Ok, IfOk, refl, ap, sym, ◌∙◌, subst, inl, inr, append_assoc, arith}
 use Rattle.std.proofs.lemmas.Bool.Decides.{nat_tests}
 use Rattle.std.proofs.lemmas.List.{append-nil}
@@ -23,7 +23,7 @@ use Rattle.run_laws.specs.Finding.{RemovalsFind}
 use Rattle.run_laws.proofs.Evaluating.{KeepsValued, KeepsFilled, evaluated_keeps, made_keeps, over_keeps, items_keep}
 use Rattle.run_laws.proofs.Parts.{ok_behind, ok_on, ok_more}
 
--- what is there is found by its tag
+-- an element that is present is found by its tag
 found_by_tag : (wm : List Element) (tag : ℕ) → has_tag wm tag ≡ true → is_some (element_of wm tag) ≡ true
 found_by_tag [] tag h = absurd (cc)
 found_by_tag (e ∷ wm) tag h = by (e.tag == tag) h (found_by_tag wm tag)
@@ -39,7 +39,7 @@ one_more wm (change.Remove tag ∷ cs) c p q = (p.0, one_more (without_tag tag w
 
 -- ---- right sides
 
--- From this working memory and after these changes there were more, which led to this working memory.
+-- After these changes to this working memory, more changes led to the present one.
 record Goes (wm : List Element) (before after : List Change) (now : List Element) : Type 0 where
   more : List Change
   changes : after ≡ before ++ more
@@ -57,7 +57,7 @@ module _ (wm : List Element) (before : List Change) where
   abbrev GoesOn : ActState → Type 0
   GoesOn d = Goes wm before d.changes d.wm
 
-  -- one change more, which finds what it removes
+  -- one more change, which finds what it removes
   change_goes : (changes : List Change) (now : List Element) (c : Change) → Goes wm before changes now → RemovalsFind now (c ∷ []) → Goes wm before (changes ++ c ∷ []) (change_done now c)
   change_goes changes now c p q =
       let P : List Element → Type 0 = λ w. RemovalsFind w (c ∷ []) in record {

@@ -1,4 +1,4 @@
--- How many fields an element has to which valid attributes are given.
+-- The number of fields of an element that gets valid attributes.
 use Rattle.std.proofs.Common.{◌≡◌, ℕ, zero, suc, ◌+◌, ◌-◌, ◌<◌, ◌≤◌, List, [], ◌∷◌, ◌++◌, length, take, fold, Bool, true, false, cond, ◌==◌, ◌&&◌, Option, Some, None, Result, Ok, Err, IfOk, refl, ap, sym, ◌∙◌, subst, nat_lt, nat_le, true≢false, arith}
 use Rattle.std.specs.Prelude.{slice_set, option_and_then}
 use Rattle.std.specs.List.{list_all}
@@ -31,7 +31,7 @@ length-slice_set [] n x = refl
 length-slice_set (y ∷ xs) zero x = refl
 length-slice_set (y ∷ xs) (suc n) x = ap suc (length-slice_set xs n x)
 
--- From `at` on this many values were placed, where there was this number of fields before and is that one now.
+-- This many values were placed from `at` on, with this number of fields before and that number now.
 record Grown (at values before after : ℕ) : Type 0 where
   reach : at + values ≤ after
   more : before ≤ after
@@ -100,7 +100,7 @@ one_evaluated classes (term.Compute f) d h = one_computed d (computed (value_in 
 one_evaluated classes term.Fresh d h = refl
 one_evaluated classes term.Accept d h = one_accepted d (accepted d.names d.coming)
 
--- a term that may stand where one value may is single
+-- a term that is allowed in the place of one value is single
 pub single : (classes : List Class) (k : Known) (t : Term) → term_is_valid classes k false t ≡ true → is_single t ≡ true
 single classes k (term.Constant v) h = refl
 single classes k (term.Variable v) h = refl
@@ -140,7 +140,7 @@ terms_grown classes at (t ∷ ts) f within room =
     larger n m le (Ok g) p = (let first = p.0 in omega (arith, le), p.1)
     larger n m le (Err e) p = tt
 
--- one value over a field that is there
+-- one value in place of a field that exists
 one_term : (classes : List Class) (at : ℕ) (ts : List Term) (f : Filled) → length ts ≡ 1 → list_all is_single ts ≡ true → at < length f.fields → length f.fields ≤ most_fields
     → IfOk (terms_placed classes at ts f) (λ g. length g.fields ≡ length f.fields)
 one_term classes at [] f one single within room = absurd (omega arith)
@@ -155,7 +155,7 @@ one_term classes at (t ∷ []) f one single within room =
 scalars_are : (c : Class) (b : Bool) → c.vector ≡ b → scalar_count c ≡ cond b (length c.attrs - 1) (length c.attrs)
 scalars_are c b is = ap (λ b. cond b (length c.attrs - 1) (length c.attrs)) is
 
--- the vector attribute stands after the scalar ones
+-- the vector attribute comes after the scalar ones
 pub vector_at : (c : Class) (f : ℕ) → is_vector c f ≡ true → (c.vector ≡ true) × (f ≡ scalar_count c)
 vector_at c f h =
     let parts = and_parts c.vector (f + 1 == length c.attrs) h in
@@ -163,7 +163,7 @@ vector_at c f h =
     let count = scalars_are c true parts.0 in
     (parts.0, omega arith)
 
--- an attribute that is not that stands among them
+-- any other attribute is among these
 pub scalar_at : (c : Class) (f : ℕ) → is_attribute c f ≡ true → is_vector c f ≡ false → f < scalar_count c
 scalar_at c f within h = by c.vector refl h
   where
@@ -199,7 +199,7 @@ no_fields_room c fit =
 abbrev pub HasRoom : Class → Filled → Type 0
 HasRoom c f = AreFieldsOf c (length f.fields)
 
--- from the vector attribute on there are any number
+-- from the vector attribute on, there may be any number of values
 vector_room : (c : Class) (f n : ℕ) → is_vector c f ≡ true → f ≤ n → n ≤ most_fields → AreFieldsOf c n
 vector_room c f n h le room =
     let at = vector_at c f h in record { scalars = omega (arith, at.1, le); room = room; plain = λ plain. absurd (true≢false (sym at.0 ∙ plain)) }

@@ -1,4 +1,4 @@
--- The walks over tests, conditions, actions and firings pass nothing over.
+-- The walks over tests, conditions, actions and firings skip nothing.
 use Rattle.std.proofs.Common.{◌||◌, ◌≡◌, option_map, unwrap_or, ℕ, zero, suc, ◌+◌, ◌-◌, ◌<◌, List, [], ◌∷◌, ◌++◌, Bool, true, false, cond, Option, Some, None, Result, Ok, Err, IfOk, refl, ap, sym, ◌∙◌, subst, inl, inr, ◌⊎◌, arith}
 use Rattle.std.specs.Prelude.{Contains, option_and_then, ◌≢◌}
 use Rattle.std.specs.Bool.{MatchBool}
@@ -95,7 +95,7 @@ action_seen P s column n (b ∷ before) after a d e each is =
 
 -- ---- a run
 
--- A run pauses by its last firing whatever number of firings it has, or by that number alone.
+-- A run pauses because of its last firing, whatever its number of firings is, or only because of that number.
 pauses : (names : Spellings) (rules : List Rule) (breaks : List Bool) (last : Option LastFiring)
     → ((line : List ℕ) × ((count : Option ℕ) → line_of_pause names rules breaks last count ≡ Some line)) ⊎ ((count : Option ℕ) → line_of_pause names rules breaks last count ≡ line_of_count count)
 pauses names rules breaks None = inr (λ count. refl)
@@ -132,7 +132,7 @@ next_seen (Some l) next i Q is on each = absurd (cc)
 next_seen None None i Q is on each = absurd (cc)
 next_seen None (Some j) i Q is on each = let same : j ≡ i = cc in subst Q same each
 
--- a run that has more firings does not pause by their number
+-- a run that has more firings left does not pause because of their number
 unpaused : (count : Option ℕ) (n : ℕ) → HasMore count n → line_of_count count ≡ None
 unpaused None n h = refl
 unpaused (Some zero) n h = absurd (omega arith)
@@ -175,7 +175,7 @@ run_keeps rules watch (suc left) s column last count k e f =
     (λ t q. run_keeps rules watch left s (column_after column fire.bytes) (last_of i t) (one_less count) (fired_on t.course k) e f))
 
 module _ (P : Setting → ℕ → Inst → Course → Type 0) (s : Setting) (limit : ℕ) (i : Inst) (done : Session) (room : done.course.firings < limit) (is_next : next_to_fire s.rules done.course ≡ Some i) where
-  -- P holds of the firing that a run goes on with
+  -- P holds of the firing with which a run continues
   abbrev Seen : Type 0
   Seen = (at : ℕ) × P s at i done.course
 
@@ -246,7 +246,7 @@ run_stays left s column last count k done is =
 -- ---- a session
 
 module _ (P : Setting → ℕ → Inst → Course → Type 0) (s : Setting) (limit : ℕ) (i : Inst) (done : Session) (room : done.course.firings < limit) (is_next : next_to_fire done.rules done.course ≡ Some i) where
-  -- what a run leaves that is the last command
+  -- what a run leaves if it is the last command
   last_left : (bytes : List ℕ) (o : Result Session Ending) → (going_on bytes o (λ k. writes [] k)).outcome ≡ Ok done → o ≡ Ok done
   last_left bytes (Ok k) is = is
   last_left bytes (Err e) is = absurd (cc)
@@ -287,8 +287,8 @@ module _ (P : Setting → ℕ → Inst → Course → Type 0) (s : Setting) (lim
       by false bytes (Ok next) rest each is more = rest next each.1 is more
       by false bytes (Err x) rest each is more = absurd (cc)
 
--- P holds of each firing that a run goes on with. Where no `back` stands in the commands that are cut, the session that
--- is cut has no trail, and is otherwise as the whole one.
+-- P holds of each firing with which a run continues. If there is no `back` among the commands that are cut, the session
+-- that is cut has no trail, and is otherwise like the whole one.
 pub firing_seen : (P : Setting → ℕ → Inst → Course → Type 0) (s : Setting) (limit n : ℕ) (before after : List Command) (count : Option ℕ) (names : Spellings) (coming : Coming) (k : Session) (i : Inst)
     → EachFiring P s limit (before ++ command.Run count ∷ after) names coming → GoesOnWith s limit before count n names coming k i
     → (column : ℕ) × P (record (in_force s k) { watch = k.watch }) column i k.course

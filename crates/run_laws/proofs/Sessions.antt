@@ -1,4 +1,5 @@
--- In each firing of a session of a valid program the elements are whole, and the right side finds all that it names.
+-- In each firing of a session of a valid program, the elements are whole, and the right side finds everything that it
+-- names.
 use Rattle.std.proofs.Common.{slice_get, ◌≡◌, ℕ, zero, suc, ◌+◌, ◌-◌, List, [], ◌∷◌, ◌++◌, map, fold, length, Bool, true, false, cond, ◌&&◌, Option, Some, None, IfOk, refl, ap, sym, subst, inl, inr, nat_lt, unwrap_or, option_map, arith}
 use Rattle.std.specs.Prelude.{Contains, MatchOption}
 use Rattle.std.specs.Bool.{MatchBool}
@@ -50,7 +51,7 @@ use Rattle.run_laws.proofs.Rooms.{fits_class, fixed_fields_room}
 use Rattle.run_laws.proofs.Sights.{each_at, sides_valid, begun_knows}
 use Rattle.run_laws.proofs.Wholes.{EachWhole, MakesWhole, Wholes, AreWholes, one_more, done_whole, actions_whole, actions_hold_whole}
 
--- what is valid of a setting: its classes, and both sides of its rules
+-- the valid parts of a setting: its classes, and both sides of its rules
 pub record IsSound (s : Setting) : Type 0 where
   classes : list_all class_is_valid s.classes ≡ true
   rules : list_all (rule_is_valid s.classes (length s.text)) s.rules ≡ true
@@ -65,7 +66,7 @@ all_whole s m g = all_from_members (IsWhole s.classes) m.wm g.whole
 
 -- ---- a firing
 
--- what is next is of the conflict set
+-- the next instantiation is in the conflict set
 next_there : (s : Setting) (m : Course) (i : Inst) → next_to_fire s.rules m ≡ Some i → Contains (conflict_set s.rules m.wm) i
 next_there s m i is = by (next_to_fire s.rules m) (dominant_is m.strategy s.rules (unfired (conflict_set s.rules m.wm) m.fired)) is
   where
@@ -76,7 +77,7 @@ next_there s m i is = by (next_to_fire s.rules m) (dominant_is m.strategy s.rule
         let P : Inst → Type 0 = Contains (conflict_set s.rules m.wm) in
         subst P same ((member-unfired (conflict_set s.rules m.wm) m.fired j).0 p.member).0
 
--- what holds where the right side of an instantiation begins
+-- what holds when the right side of an instantiation begins
 record Beginning (s : Setting) (m : Course) (i : Inst) : Type 0 where
   rule : Rule
   actions : actions_of s.rules i.rule ≡ rule.actions
@@ -135,13 +136,13 @@ firing_good s column i m sound good in_set =
     (ok_both (IsLawfulOver m.wm m.last) (λ (a : Acted). MakesWhole s.classes a.changes) a.outcome (acts_lawfully s start i (given_by m) good.kept) (acted_whole s start i m sound good in_set))
     (λ a q. let lawful = q.0 in record { kept = lawful.kept; whole = done_whole s.classes m.wm a.changes good.whole q.1 })
 
--- what holds of what is next where working memory is good
+-- what holds of the next instantiation if working memory is good
 abbrev HoldsNext : (Setting → ℕ → Inst → Course → Type 0) → Type 0
 HoldsNext P = (s : Setting) (column : ℕ) (i : Inst) (m : Course) → IsSound s → IsGood s.classes m → Contains (conflict_set s.rules m.wm) i → P s column i m
 
 -- ---- a run
 
--- the same of what was before a firing
+-- the same of the state before a firing
 record GoodEarlier (classes : List Class) (e : Earlier) : Type 0 where
   kept : WellKept e.wm e.last
   whole : EachWhole classes e.wm
@@ -230,7 +231,7 @@ with_all p [] x h k = and_from _ _ k refl
 with_all p (y ∷ xs) x h k =
     let parts = and_parts (p y) (list_all p xs) h in and_from _ _ parts.0 (with_all p xs x parts.1 k)
 
--- what a command leaves of a session whose productions in force are valid
+-- what a command leaves of a session in which the productions in force are valid
 record StillGood (classes : List Class) (text : ℕ) (k : Session) : Type 0 where
   course : IsGood classes k.course
   trail : AreKept (GoodEarlier classes) k
@@ -362,7 +363,7 @@ module _ (P : Setting → ℕ → Inst → Course → Type 0) (holds : HoldsNext
 
 -- ---- a session
 
--- what is valid of a program
+-- the valid parts of a program
 pub record ValidParts (s : Setting) (cs : List Command) : Type 0 where
   classes : list_all class_is_valid s.classes ≡ true
   rules : list_all (rule_is_valid s.classes (length s.text)) s.rules ≡ true
@@ -385,7 +386,7 @@ session_good P holds s limit commands names coming h =
 pub each_firing_finds : (s : Setting) (limit : ℕ) (commands : List Command) (names : Spellings) (coming : Coming) → AreValid s commands → EachFiring FindsAll s limit commands names coming
 each_firing_finds s limit commands names coming h = (session_good FindsAll finds_all s limit commands names coming h).0
 
--- the same, whatever the column is
+-- the same for any column
 pub each_firing_finds_anywhere : (s : Setting) (limit : ℕ) (commands : List Command) (names : Spellings) (coming : Coming) → AreValid s commands
     → EachFiring (λ s column i m. (at : ℕ) → FindsAll s at i m) s limit commands names coming
 each_firing_finds_anywhere s limit commands names coming h =

@@ -1,4 +1,4 @@
--- A pattern of constants is met as the positive condition with these constants is.
+-- A pattern of constants matches what the positive condition with these constants matches.
 use Rattle.std.proofs.Common.{◌≡◌, ℕ, suc, List, [], ◌∷◌, ◌++◌, filter, Bool, true, false, cond, ◌==◌, ◌&&◌, Option, Some, None, is_some, refl, ap, sym, ◌∙◌}
 use Rattle.std.specs.Prelude.{option_and_then}
 use Rattle.std.specs.List.{flat_map, list_all, AllByRecursion}
@@ -21,7 +21,7 @@ use Rattle.run_laws.specs.Patterns.{equalities, condition_with, meeting}
 
 -- ---- one condition
 
--- these bindings, where the test passes
+-- these bindings, if the test passes
 abbrev kept : Bool → List Binding → Option (List Binding)
 kept b bindings = cond b (Some bindings) None
 
@@ -86,7 +86,7 @@ sorted_kept p (e ∷ wm) h = by (p e) (sorted_kept p wm h.1)
     by true ih = (each_kept (λ y. nat_cmp e.tag y ≡ Less) p wm h.0, ih)
     by false ih = ih
 
--- the elements that a test keeps stand in the order of their tags
+-- the elements that a test keeps are in the order of their tags
 pub rising_kept : (p : Element → Bool) (wm : List Element) → HasRisingTags wm → HasRisingTags (filter p wm)
 rising_kept p wm h =
     IsStrictlyIncreasing-from_sorted (tags_of (filter p wm)) (sorted_kept p wm (sorted_from_strictly_increasing (tags_of wm) h))

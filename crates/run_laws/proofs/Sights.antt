@@ -1,4 +1,4 @@
--- What the validity of conditions takes as in sight is bound, at each condition and where the right side begins.
+-- What the validity of conditions assumes to be in sight is bound, at each condition and when the right side begins.
 use Rattle.std.proofs.Common.{◌≡◌, ℕ, zero, suc, List, [], ◌∷◌, length, Bool, true, false, cond, not, ◌==◌, ◌&&◌, ◌||◌, Some, None, option_map, refl, ap, sym, ◌∙◌, subst, nat_lt, slice_get, unwrap_or}
 use Rattle.std.specs.Prelude.{Contains, nat_le, option_and_then}
 use Rattle.std.specs.List.{flat_map, list_all}
@@ -173,7 +173,7 @@ left_side_finds s commands wm k r h at =
     let sides = sides_valid s.classes (length s.text) r (rule_valid s.classes s.rules h.0 commands (length s.text) k r h.1 at) in
     walk_found s.classes wm r.conditions nothing_in_sight (empty_partial ∷ []) nothing_seen sides.0
 
--- the classes of the positive conditions are there
+-- the classes of the positive conditions exist
 cells_there : (classes : List Class) (s : Sight) (parts : List Part) → parts_are_valid classes s parts ≡ true → list_all (λ c. nat_lt c (length classes)) (cells_of parts) ≡ true
 cells_there classes s [] h = refl
 cells_there classes s (Group cs ∷ parts) h =
@@ -188,7 +188,7 @@ cells_there classes s (One c ∷ parts) h =
     by true here rest = rest
     by false here rest = and_from _ _ here rest
 
--- what is known where the right side of an instantiation begins is so
+-- what is known when the right side of an instantiation begins is true
 pub begun_knows : (s : Setting) (g : Given) (i : Inst) (r : Rule) → HasRisingTags g.wm → conditions_of s.rules i.rule ≡ r.conditions → parts_are_valid s.classes nothing_in_sight r.conditions ≡ true
     → (q : Partial) → IsMember q (matches_of g.wm r.conditions) → q.tags ≡ i.tags → Holds s.classes (known_of r.conditions) (begun s i g).bindings (begun s i g).cells []
 begun_knows s g i r rising same valid q m t =

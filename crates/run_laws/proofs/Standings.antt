@@ -1,4 +1,4 @@
--- What stands where a production goes or comes.
+-- The instantiations that stand if a production is removed or added.
 use Rattle.std.proofs.Common.{◌≡◌, ℕ, List, [], ◌∷◌, ◌++◌, length, Bool, true, false, not, ◌==◌, ◌&&◌, ◌||◌, if◌then◌else◌, Option, Some, None, refl, sym, ap, ◌∙◌, arith}
 use Rattle.std.specs.Prelude.{◌<◌, filter, option_map, All}
 use Rattle.std.specs.List.{cons_option, filter_map}
@@ -17,7 +17,7 @@ use Rattle.ops_base.specs.Refraction.{is_among, is_same_inst, same_tags, unfired
 use Rattle.ops_base.proofs.InstOrder.{equal_numbers}
 use Rattle.ops_base.proofs.LiveLaws.{conflict_set-append, conflict_set-without, moved_order}
 
--- ---- those that pass, of those that are left
+-- ---- those that pass a test, among those that are left
 
 module _ {X Y : Type 0} (f : X → Option Y) (p : Y → Bool) (q : X → Bool) (agree : (x : X) (y : Y) → f x ≡ Some y → p y ≡ q x) where
   pub filter_moved : (xs : List X) → filter p (filter_map f xs) ≡ filter_map f (filter q xs)
@@ -45,7 +45,7 @@ module _ {X Y : Type 0} (f : X → Option Y) (p : Y → Bool) (q : X → Bool) (
 
 -- ---- numbers that moved
 
--- no two productions get one number
+-- no two productions get the same number
 moved_apart : (k n m i : ℕ) → moved k n ≡ Some i → moved k m ≡ Some i → n ≡ m
 moved_apart k n m i e f = equal_numbers n m (sym (moved_order k n m i i e f) ∙ sym (nat_cmp_is i i Equal refl))
 
@@ -66,7 +66,7 @@ same_numbers k n m i j e f = by (i == j) (n == m) refl refl
 same_moved : (k a b : ℕ) (i j : Inst) → moved k i.rule ≡ Some a → moved k j.rule ≡ Some b → is_same_inst (renumbered i a) (renumbered j b) ≡ is_same_inst i j
 same_moved k a b i j e f = ap (λ t. t && same_tags i.tags j.tags) (same_numbers k i.rule j.rule a b e f)
 
--- an instantiation of a production that stays is none of the one that goes
+-- an instantiation of a production that stays is not one of the production that is removed
 not_gone : (k a : ℕ) (i j : Inst) → moved k i.rule ≡ Some a → moved k j.rule ≡ None → is_same_inst i j ≡ false
 not_gone k a i j e f = ap (λ t. t && same_tags i.tags j.tags) (by (i.rule == j.rule) refl)
   where
@@ -90,7 +90,7 @@ among_moved k a i (j ∷ fired) e = by (moved k j.rule) refl (among_moved k a i 
         ∙ ap (λ t. t || is_among (moved_insts k fired) (renumbered i a)) (same_moved k a b i j e f)
         ∙ ap (λ t. is_same_inst i j || t) rest
 
--- ---- a production goes
+-- ---- a production is removed
 
 pub stands_without : (k : ℕ) (rules : List Rule) (wm : List Element) (fired : List Inst)
     → unfired (conflict_set (without k rules) wm) (moved_insts k fired) ≡ moved_insts k (unfired (conflict_set rules wm) fired)
@@ -110,7 +110,7 @@ stands_without k rules wm fired =
             let same : renumbered i a ≡ j = cc in
             ap (λ (x : Inst). not (is_among (moved_insts k fired) x)) (sym same) ∙ ap not (among_moved k a i fired f)
 
--- ---- a production comes
+-- ---- a production is added
 
 -- none of these is of a production with this number
 new_among : (n : ℕ) (i : Inst) (fired : List Inst) → i.rule ≡ n → All (λ j. j.rule < n) fired → is_among fired i ≡ false

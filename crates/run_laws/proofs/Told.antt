@@ -1,4 +1,4 @@
--- The values that an instantiation binds are those of the fields that its spots name.
+-- An instantiation binds the values of the fields that its spots name.
 use Rattle.std.proofs.Common.{◌≡◌, ℕ, ◌+◌, ◌-◌, ◌<◌, ◌≤◌, ◌==◌, List, [], ◌∷◌, ◌++◌, map, take, length, Bool, true, false, cond, is_some, Option, Some, None, refl, ap, sym, ◌∙◌, subst, inl, inr, append_assoc, arith}
 use Rattle.std.proofs.Math.Seq.{take-append_seam, get_or-append_seam}
 use Rattle.std.proofs.lemmas.Bool.{eqb-true}
@@ -46,7 +46,7 @@ items_of {X} xs = X
 abbrev Spot : Type 0
 Spot = items_of (spots_from 1 [])
 
--- ---- what the tests of a condition put at variables
+-- ---- the values that the tests of a condition bind to variables
 
 one_puts : (t : Test) (e : Element) (bs next : List Binding) → after_test t e bs ≡ Some next → next ≡ bs ++ put_by e t
 one_puts t e bs next is = by t.binds refl
@@ -84,7 +84,7 @@ put_values (t ∷ ts) e =
     by None = refl
     by (Some v) = refl
 
--- what meets a condition is of its class and comes through its tests
+-- an element that meets a condition is of its class and passes its tests
 class_and_tests : (c : Condition) (e : Element) (bs next : List Binding) → match_of c e bs ≡ Some next → (e.class ≡ c.class) × (after_tests c.tests e bs ≡ Some next)
 class_and_tests c e bs next is = by (e.class == c.class) refl is
   where
@@ -109,7 +109,7 @@ get_seam xs ys y =
     let within : length xs < length (xs ++ y ∷ ys) = grind (arith, more) in
     slice_get-get_or (xs ++ y ∷ ys) (length xs) y within ∙ ap Some (get_or-append_seam xs y ys y)
 
--- The parts and the tags are these, of which those before have been walked over.
+-- These are the parts and the tags; the walk is past the earlier ones.
 record IsAt (parts : List Part) (tags : List ℕ) (place : ℕ) (before rest : List Part) (taken left : List ℕ) : Type 0 where
   pub parts_are : parts ≡ before ++ rest
   pub tags_are : tags ≡ taken ++ left
@@ -118,7 +118,7 @@ record IsAt (parts : List Part) (tags : List ℕ) (place : ℕ) (before rest : L
   pub taken_are : length (cells_of before) ≡ length taken
 
 module _ (wm : List Element) (rising : HasRisingTags wm) (parts : List Part) (tags : List ℕ) where
-  -- one part further, which took these tags
+  -- one more part, which used these tags
   further : (place : ℕ) (before rest : List Part) (part : Part) (taken front left : List ℕ) → length (cells_of (part ∷ [])) ≡ length front → IsAt parts tags place before (part ∷ rest) taken (front ++ left)
       → IsAt parts tags (place + 1) (before ++ part ∷ []) rest (taken ++ front) left
   further place before rest part taken front left takes at =
@@ -158,7 +158,7 @@ module _ (wm : List Element) (rising : HasRisingTags wm) (parts : List Part) (ta
   abbrev Stands : Spot → Type 0
   Stands s = IsThere wm parts tags s.place s.class
 
-  -- The values at the end are those at the start and what the spots tell, and each spot is there.
+  -- The values at the end are those at the start and those of the spots, and each spot exists.
   abbrev Tells : ℕ → List Part → List Binding → List Binding → Type 0
   Tells place ps bs final =
       (values_in final ≡ values_in bs ++ map told_by (spots_from place ps)) × ((s : Spot) → IsMember s (spots_from place ps) → Stands s)
@@ -258,7 +258,7 @@ module _ (names : Spellings) (classes : List Class) (value : Spot → Value) whe
       ap (λ w. codes ";" ++ text s ++ w) (further_texts spots)
       ∙ sym (append_assoc (codes ";") (text s) (flat_map (λ s. codes ";" ++ text s) spots))
 
-  -- if there are as many values, no spot and no value is left out
+  -- if there are as many values as spots, none of either is left out
   all_texts : (spots : List Spot) → bindings_text names classes true spots (map value spots) ≡ join_by text (codes ";") spots
   all_texts [] = refl
   all_texts (s ∷ spots) = ap (λ w. text s ++ w) (further_texts spots)

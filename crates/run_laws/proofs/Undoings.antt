@@ -36,12 +36,12 @@ got_before [] ys i x e = absurd (cc)
 got_before (y ∷ xs) ys zero x e = e
 got_before (y ∷ xs) ys (suc i) x e = got_before xs ys i x e
 
--- this state is the earliest of the last so many
+-- this state is the earliest of the last ones, of which there are this many
 record IsEarliest (n : ℕ) (es : List Earlier) (e : Earlier) : Type 0 where
   enough : n ≤ length es
   there : slice_get es (length es - n) ≡ Some e
 
--- it is kept where so many are
+-- it is kept if this many are kept
 earliest_kept : (n : ℕ) (all : List Earlier) (e : Earlier) → n ≤ 32 → IsEarliest n all e → IsEarliest n (last_kept all) e
 earliest_kept n all e few h =
     let d = length all - 32 in
@@ -52,7 +52,7 @@ earliest_kept n all e few h =
       there = got_past d (length (drop d all) - n) all ∙ ap (slice_get all) place ∙ h.there;
     }
 
--- a firing more
+-- one more firing
 earliest_first : (es : List Earlier) (e : Earlier) → IsEarliest 1 (es ++ e ∷ []) e
 earliest_first es e =
     let long = length-append es (e ∷ []) in
@@ -70,7 +70,7 @@ earliest_then n es e next h =
 
 -- ---- firings
 
--- there is a trail, and this state is the earliest of its last so many
+-- there is a trail, and this state is the earliest of its last ones, of which there are this many
 abbrev HasEarliest : ℕ → Session → Earlier → Type 0
 HasEarliest n k e = (es : List Earlier) × (k.trail ≡ Some es) × IsEarliest n es e
 
@@ -125,7 +125,7 @@ few_kept s limit column n k few =
 
 -- ---- a run
 
--- so many firings lead from the one to the other, and are counted
+-- this many firings lead from the one to the other, and are counted
 abbrev RunsTo : Setting → Session → Session → Type 0
 RunsTo s k fired = (n : ℕ) × FireTo s n k fired × (fired.course.firings ≡ k.course.firings + n)
 

@@ -1,4 +1,4 @@
--- A session in which no `back` stands is the same with a trail as without one.
+-- A session without a `back` among its commands does the same with a trail as without one.
 use Rattle.std.proofs.Common.{◌≡◌, ℕ, zero, suc, ◌-◌, List, [], ◌∷◌, ◌++◌, fold, Bool, true, false, cond, ◌||◌, Option, Some, None, option_map, unwrap_or, Result, Ok, Err, refl, ap, ◌∙◌}
 use Rattle.std.specs.List.{list_any}
 use Rattle.ops_base.specs.declared.commands.Command.{Command}
@@ -42,7 +42,7 @@ then_bare : {S : Type 0} (bytes : List ℕ) (o : Result S Ending) (f g : S → E
 then_bare bytes (Ok s) f g h = ap (led_by bytes) (h s)
 then_bare bytes (Err e) f g h = refl
 
--- where the first part leaves a session
+-- if the first part leaves a session
 behind_bare : (bytes : List ℕ) (o : Result Session Ending) (f g : Session → Effect Ending Session) → ((k : Session) → bare (f k) ≡ g (untrailed k)) → bare (going_on bytes o f) ≡ going_on bytes (outcome_as untrailed (λ e. e) o) g
 behind_bare bytes (Ok k) f g h = ap (led_by bytes) (h k)
 behind_bare bytes (Err e) f g h = refl

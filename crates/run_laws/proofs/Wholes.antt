@@ -32,7 +32,7 @@ use Rattle.run_laws.proofs.Rooms.{HasRoom, fits_class, no_fields_room, puts_made
 abbrev pub EachWhole : List Class → List Element → Type 0
 EachWhole classes es = (e : Element) → IsMember e es → IsWhole classes e
 
--- what these changes make is whole
+-- the elements that these changes make are whole
 abbrev pub MakesWhole : List Class → List Change → Type 0
 MakesWhole classes changes = (e : Element) → IsMember (change.Add e) changes → IsWhole classes e
 
@@ -79,7 +79,7 @@ module _ (classes : List Class) where
   last_from (change.Add e ∷ cs) x h one = last_from cs e (λ f m. h f (inr m)) (inl (h e (inl refl)))
   last_from (change.Remove tag ∷ cs) x h one = last_from cs x (λ f m. h f (inr m)) one
 
-  -- what was made last is whole, where one was made
+  -- the element that was made last is whole, if one was made
   last_whole : (cs : List Change) → MakesWhole classes cs → list_any is_add cs ≡ true → IsWhole classes (made_last cs)
   last_whole cs h one = last_from cs no_element h (inr one)
 

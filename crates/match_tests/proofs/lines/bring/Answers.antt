@@ -1,4 +1,4 @@
--- The token is kept under no code but its own.
+-- The token is kept only under its own code.
 use Rattle.std.proofs.Common.{◌%◌, ◌∙◌, ap, slice_index, sym}
 use Rattle.token_line.proofs.Coded.{coded_alone}
 use Rattle.match_tests.proofs.lines.bring.Goals as goal

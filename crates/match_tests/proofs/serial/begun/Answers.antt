@@ -6,7 +6,7 @@ use Rattle.ops_base.specs.WorkingMemory.{done}
 use Rattle.work_store.specs.Stored.{Stored, nothing_stored}
 use Rattle.match_tests.proofs.serial.begun.Goals as goal
 
--- where nothing is stored one element is added
+-- one element is added while nothing is stored
 one_is_added : (s : Stored) (e f : Element) (cs : List Change) → s ≡ nothing_stored → cs ≡ Add e ∷ [] → e ≡ f → done s.elements cs ≡ f ∷ []
 one_is_added s e f cs none changes same =
     ap (λ (t : Stored). done t.elements cs) none ∙ (ap (λ ds. done [] ds) changes ∙ ap (λ g. g ∷ []) same)

@@ -9,7 +9,7 @@ use Rattle.ops_base.specs.WorkingMemory.{tags_of, Lawful}
 use Rattle.ops_base.proofs.Members.{contains_from_member}
 use Rattle.match_tests.proofs.serial.blocked_for_a_moment.Goals as goal
 
--- beside one element a second is added and removed
+-- in addition to one element, a second one is added and removed
 second_comes_and_goes : (wm : List Element) (e f : Element) (last : ℕ) (cs : List Change) → wm ≡ e ∷ [] → last ≡ 1 → f.tag ≡ 2 → cs ≡ Add f ∷ Remove 2 ∷ [] → Lawful wm last cs
 second_comes_and_goes wm e f last cs only is tag changes =
     let P : List Change → Type 0 = Lawful wm last in

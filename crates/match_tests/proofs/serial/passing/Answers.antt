@@ -7,7 +7,7 @@ use Rattle.ops_base.proofs.Members.{contains_from_member}
 use Rattle.work_store.specs.Stored.{Stored, nothing_stored}
 use Rattle.match_tests.proofs.serial.passing.Goals as goal
 
--- where nothing is stored one element is added and removed
+-- one element is added and removed while nothing is stored
 one_comes_and_goes : (s : Stored) (e : Element) (cs : List Change) → s ≡ nothing_stored → e.tag ≡ 1 → cs ≡ Add e ∷ Remove 1 ∷ [] → Lawful s.elements s.last cs
 one_comes_and_goes s e cs none tag changes =
     let P : List Change → Type 0 = Lawful [] 0 in

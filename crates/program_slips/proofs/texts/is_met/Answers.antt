@@ -1,4 +1,4 @@
--- A key is found by what it spells.
+-- A key is found by its spelling.
 use Rattle.std.proofs.Common.{sym, ◌∙◌}
 use Rattle.std.specs.Prelude.{bytes_eq}
 use Rattle.ops_base.proofs.Fresh.{any-map}
