@@ -1,5 +1,5 @@
 -- The state that is gone back to, and what the caller knows of it.
-use Rattle.std.proofs.Common.{◌≡◌, ℕ, zero, suc, ◌-◌, ◌<◌, ◌≤◌, List, [], ◌∷◌, length, Option, Some, None, refl, ap, sym, ◌∙◌, subst, arith}
+use Rattle.std.proofs.Common.{◌≡◌, ℕ, zero, suc, ◌-◌, ◌<◌, ◌≤◌, List, [], ◌∷◌, length, Option, Some, None, option_map, refl, ap, sym, ◌∙◌, subst, arith}
 use Rattle.std.specs.Prelude.{slice_get, Contains, is_some, true}
 use Rattle.std.proofs.lemmas.Bool.{false≢true}
 use Rattle.ops_base.specs.declared.commands.Strategy.{Strategy}
@@ -22,13 +22,13 @@ use Rattle.work_store.specs.Stored.{Stored}
 use Rattle.cycle.specs.Standing.{Standing}
 use Rattle.cycle.specs.States.{Held, state_course}
 use Rattle.back_trail.specs.Kept.{IsSound, course_over}
-use Rattle.back_trail.specs.Trails.{AreMarkedIn, AreNamedBy, Begun, Earlier, IsMarkedIn, Trailed, gone_back, trail_of}
-use Rattle.back_trail.proofs.Named.{marked_at, named_within}
+use Rattle.back_trail.specs.Trails.{AreNamedBy, Begun, Earlier, IsMarkedIn, Trailed, gone_back, trail_of}
+use Rattle.back_trail.proofs.Named.{named_within}
 
 -- the states of a trail that has begun
-pub states_are : (k : Option Begun) (b : Begun) (t : Trailed) → Some b ≡ k → trail_of k ≡ t → b.states ≡ t.states
-states_are k b t is view =
-    ap (λ (o : Option Begun). (trail_of o).states) is ∙ ap (λ (w : Trailed). w.states) view
+pub states_are : {X : Type 0} (f : X → Begun) (k : Option X) (b : X) (t : Trailed) → Some b ≡ k → trail_of (option_map f k) ≡ t → (f b).states ≡ t.states
+states_are {X} f k b t is view =
+    ap (λ (o : Option X). (trail_of (option_map f o)).states) is ∙ ap (λ (w : Trailed). w.states) view
 
 abbrev pub IsThere : List Earlier → ℕ → Earlier → Type 0
 IsThere states n e = slice_get states (length states - n) ≡ Some e
@@ -77,8 +77,8 @@ went_back {M} stored state rules r e same sound marked strategy firings by made 
     ∙ (λ i. record { wm = e.standing.wm; strategy = by i; fired = marks i; firings = made i; last = e.standing.last; names = spelled; coming = coming })
 
 -- a trail that has begun knows this state
-pub known : (k : Option Begun) (t : Trailed) → trail_of k ≡ t → is_some k ≡ true → (x : Standing) → ((s : Standing) → t.now ≡ Some s → s ≡ x) → t ≡ record { states = t.states; now = Some x }
-known None t view some x h = absurd (false≢true some)
-known (Some b) t view some x h =
-    let e : t.now ≡ Some b.now = ap (λ (w : Trailed). w.now) (sym view) in
-    let now = e ∙ ap Some (h b.now e) in λ i. record { states = t.states; now = now i }
+pub known : {X : Type 0} (f : X → Begun) (k : Option X) (t : Trailed) → trail_of (option_map f k) ≡ t → is_some k ≡ true → (x : Standing) → ((s : Standing) → t.now ≡ Some s → s ≡ x) → t ≡ record { states = t.states; now = Some x }
+known f None t view some x h = absurd (false≢true some)
+known f (Some b) t view some x h =
+    let e : t.now ≡ Some (f b).now = ap (λ (w : Trailed). w.now) (sym view) in
+    let now = e ∙ ap Some (h (f b).now e) in λ i. record { states = t.states; now = now i }

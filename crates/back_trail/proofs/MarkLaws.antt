@@ -1,5 +1,5 @@
 -- Marks as sets of keys in order.
-use Rattle.std.proofs.Common.{◌≡◌, length, arith, List, [], ◌∷◌, ◌++◌, filter, Bool, true, false, cond, not, ◌||◌, refl, ap, sym, ◌∙◌, subst, inl, inr, append_assoc}
+use Rattle.std.proofs.Common.{◌≡◌, length, arith, List, [], ◌∷◌, ◌++◌, filter, Bool, true, false, cond, not, ◌||◌, refl, ap, sym, ◌∙◌, subst, inl, inr}
 use Rattle.std.specs.Bool.{Decides}
 use Rattle.std.specs.BTreeMap.{is_at}
 use Rattle.std.specs.BTreeSet.{insert_key}
@@ -12,9 +12,9 @@ use Rattle.std.proofs.lemmas.Bool.{false≢true}
 use Rattle.ops_base.specs.declared.rules.Inst.{Inst}
 use Rattle.ops_base.specs.Instances.{Before, IsInOrder, by_rule_and_tags}
 use Rattle.ops_base.specs.Refraction.{is_among, is_same_inst}
-use Rattle.ops_base.proofs.Members.{IsMember, members_from_each, member_left, member_right}
+use Rattle.ops_base.proofs.Members.{IsMember, members_from_each, member_right}
 use Rattle.ops_base.proofs.InOrder.{AllBefore, before_from_all_pairs, all_pairs_from_before}
-use Rattle.ops_base.proofs.InstOrder.{standing, less_before, before_itself, before_trans, not_both_before, before_differs}
+use Rattle.ops_base.proofs.InstOrder.{standing, less_before, not_both_before, before_differs}
 use Rattle.ops_base.proofs.RefractionLaws.{is_same_inst-Decides}
 use Rattle.cycle.specs.Standing.{with_inst, without_gone}
 

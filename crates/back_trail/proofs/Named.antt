@@ -1,5 +1,5 @@
 -- What a caller keeps true of a trail: its points are of the names, and its marks in the conflict sets.
-use Rattle.std.proofs.Common.{◌≡◌, ℕ, zero, suc, ◌+◌, ◌-◌, ◌<◌, ◌≤◌, List, [], ◌∷◌, ◌++◌, length, take, drop, Option, Some, None, refl, ap, sym, ◌∙◌, subst, arith}
+use Rattle.std.proofs.Common.{◌≡◌, ℕ, zero, suc, ◌-◌, ◌≤◌, List, [], ◌∷◌, ◌++◌, length, take, drop, Some, refl, ap, subst, arith}
 use Rattle.std.specs.Prelude.{slice_get, Contains}
 use Rattle.ops_base.specs.declared.elements.Element.{Element}
 use Rattle.ops_base.specs.declared.rules.Inst.{Inst}
@@ -7,13 +7,13 @@ use Rattle.ops_base.specs.declared.rules.Rule.{Rule}
 use Rattle.ops_base.specs.declared.symbols.Point.{Point}
 use Rattle.ops_base.specs.ConflictSet.{conflict_set}
 use Rattle.ops_base.specs.Names.{Spellings}
-use Rattle.ops_base.proofs.Members.{IsMember, member_from_contains, contains_from_member, all_from_members}
+use Rattle.ops_base.proofs.Members.{contains_from_member, all_from_members}
 use Rattle.ops_meaning.specs.Kept.{KeepsNames}
 use Rattle.conflict_index.specs.Indexed.{Member, insts_of, fired_of}
 use Rattle.cycle.specs.declared.fired.Fired.{Fired}
 use Rattle.cycle.specs.Standing.{Standing}
 use Rattle.cycle.proofs.Marks.{fired_member, member_inst}
-use Rattle.back_trail.specs.Trails.{Earlier, Trailed, AreMarkedIn, AreNamedBy, AreNamedFrom, IsMarkedIn, last_ones, names_at, with_firing}
+use Rattle.back_trail.specs.Trails.{Earlier, Trailed, AreMarkedIn, AreNamedBy, AreNamedFrom, IsMarkedIn, names_at, with_firing}
 
 some_is : {X : Type 0} (x y : X) → Some x ≡ Some y → x ≡ y
 some_is x y e = cc

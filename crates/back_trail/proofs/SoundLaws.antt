@@ -1,6 +1,6 @@
 -- What stays true of a state as changes are done to it, and marks come and go.
 use Rattle.std.proofs.Common.{◌≡◌, ℕ, ◌<◌, ◌≤◌, List, [], ◌∷◌, ◌++◌, refl, ap, sym, ◌∙◌, subst, arith, map}
-use Rattle.std.specs.Prelude.{All, Result, Ok, Err, OnOk, OnErr}
+use Rattle.std.specs.Prelude.{Result, Ok, Err, OnOk, OnErr}
 use Rattle.std.specs.List.{AllByRecursion}
 use Rattle.std.proofs.lemmas.List.Elements.{recursion_from_All}
 use Rattle.ops_base.specs.declared.elements.Change.{Change}
@@ -14,7 +14,7 @@ use Rattle.cycle.specs.declared.fired.Fired.{Fired}
 use Rattle.ops_base.specs.WorkingMemory.{Lawful, without_tag, change_done, done, last_after, tags_of}
 use Rattle.ops_base.proofs.FeedingLaws.{StartsAbove, rises}
 use Rattle.ops_base.proofs.Filtered.{all_before-filter}
-use Rattle.ops_base.proofs.InOrder.{AllBefore, before_from_all_pairs, all_pairs_from_before}
+use Rattle.ops_base.proofs.InOrder.{before_from_all_pairs, all_pairs_from_before}
 use Rattle.ops_meaning.specs.Kept.{WellKept}
 use Rattle.ops_meaning.proofs.Lawful.{lawful_kept}
 use Rattle.work_store.specs.Stored.{Stored}
@@ -23,7 +23,7 @@ use Rattle.cycle.specs.States.{Held}
 use Rattle.cycle.specs.Standing.{Standing, after_firing, with_inst, without_gone}
 use Rattle.cycle.proofs.Above.{AreAbove, phase_above}
 use Rattle.cycle.proofs.Standings.{with_inst_in_order}
-use Rattle.live_rules.proofs.Placed.{Feeds, feeds}
+use Rattle.live_rules.proofs.Placed.{feeds}
 use Rattle.back_trail.specs.Kept.{IsHeld, IsRemade, IsSound, remade}
 use Rattle.std.proofs.Common.{not, Bool}
 

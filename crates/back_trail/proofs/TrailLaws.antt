@@ -1,7 +1,6 @@
 -- The states of a trail, as firings come and are undone.
 use Rattle.std.proofs.Common.{◌≡◌, ℕ, zero, suc, ◌+◌, ◌-◌, ◌<◌, ◌≤◌, List, [], ◌∷◌, ◌++◌, length, take, drop, get_or, Option, Some, None, refl, ap, sym, ◌∙◌, subst, arith, length-append}
 use Rattle.std.specs.Prelude.{slice_get}
-use Rattle.ops_base.specs.declared.symbols.Point.{Point}
 use Rattle.ops_base.specs.WorkingMemory.{Lawful}
 use Rattle.cycle.specs.declared.fired.Fired.{Fired}
 use Rattle.cycle.specs.Standing.{Standing, after_firing}
@@ -51,6 +50,17 @@ point_at k s [] t e there is = cc
 point_at zero s (u ∷ ts) t e there is =
     ap (λ (w : Step). w.point) (sym (some_is u t there)) ∙ ap (λ (w : Earlier). w.point) (some_is (record { standing = s; point = u.point }) e is)
 point_at (suc k) s (u ∷ ts) t e there is = point_at k (after_firing u.fired s) ts t e there is
+
+-- one firing on: its changes can be done to the state after those before it, and lead to the state after it
+pub one_on : (k count : ℕ) (s : Standing) (ts : List Step) (t : Step) → t ≡ get_or ts k t → k < count → count ≤ length ts → AreLawful s (take count ts)
+    → Lawful (after_steps s (take k ts)).wm (after_steps s (take k ts)).last t.fired.changes × (after_firing t.fired (after_steps s (take k ts)) ≡ after_steps s (take (suc k) ts))
+one_on k count s [] t there lt within lawful = absurd (omega (arith, lt, within))
+one_on k zero s (u ∷ ts) t there lt within lawful = absurd (omega (arith, lt))
+one_on zero (suc count) s (u ∷ ts) t there lt within lawful =
+    let P : Step → Type 0 = λ w. Lawful s.wm s.last w.fired.changes × (after_firing w.fired s ≡ after_firing u.fired s) in
+    subst P (sym there) (lawful.0, refl)
+one_on (suc k) (suc count) s (u ∷ ts) t there lt within lawful =
+    one_on k count (after_firing u.fired s) ts t there (omega (arith, lt)) (omega (arith, within)) lawful.1
 
 -- ---- one firing more
 

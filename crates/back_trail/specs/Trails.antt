@@ -1,5 +1,5 @@
 -- The trail as a contract sees it: the states before the firings that it keeps, and the state after them.
-use Rattle.std.specs.Prelude.{ℕ, ◌<◌, ◌≤◌, ◌-◌, List, [], ◌∷◌, ◌++◌, length, drop, take, All, Contains, Option, None, Some}
+use Rattle.std.specs.Prelude.{ℕ, ◌≤◌, ◌-◌, List, [], ◌∷◌, ◌++◌, length, drop, take, All, Contains, Option, None, Some}
 use Rattle.ops_base.specs.declared.rules.Rule.{Rule}
 use Rattle.ops_base.specs.declared.symbols.Point.{Point}
 use Rattle.ops_base.specs.ConflictSet.{conflict_set}
@@ -47,7 +47,8 @@ taken_back n e t = record { states = take (length t.states - n) t.states; now = 
 
 -- ---- what comes back
 
--- the names that were in use at a point
+-- the first of these names, as many as a point has, with its number of fresh atoms: the names that were in use at the
+-- point, if names were only added since
 abbrev pub names_at : Point → Spellings → Spellings
 names_at point names = record { held = take point.held names.held; made = point.fresh }
 
@@ -63,7 +64,8 @@ abbrev pub AreNamedFrom : ℕ → Spellings → List Earlier → Type 0
 AreNamedFrom least names [] = least ≤ length names.held
 AreNamedFrom least names (e ∷ states) = (least ≤ e.point.held) × AreNamedFrom e.point.held names states
 
--- The points were given by these names one after another, and none was gone back to behind a later one.
+-- Each point has at least one spelling and no fewer than the point before it, and none has more than these names. So it
+-- is if these names gave the points one after another, and none was gone back to behind a later one.
 abbrev pub AreNamedBy : Spellings → List Earlier → Type 0
 AreNamedBy names states = AreNamedFrom 1 names states
 

@@ -13,6 +13,7 @@ use ops_base::elements::Change;
 use ops_base::memory::OutOfMemory;
 use ops_base::symbols::Point;
 use std::alloc::Global;
+use std::collections::VecDeque;
 use std::marker::Model;
 
 /// How many firings can be undone.
@@ -24,7 +25,7 @@ pub(crate) const MOST: usize = 32;
 pub(crate) struct Kept {
     oldest: Oldest,
     late: Option<Late>,
-    steps: Vec<Step>,
+    steps: VecDeque<Step>,
 }
 
 impl Model for Kept {
@@ -72,18 +73,18 @@ fn catch_up(alloc: Global, oldest: &mut Oldest, late: &mut Option<Late>) -> Resu
 }
 
 /// Adds a firing at the end. Of 33 the first is taken off.
-fn add_step(steps: &mut Vec<Step>, step: Step) -> Result<Option<Step>, OutOfMemory>
+fn add_step(steps: &mut VecDeque<Step>, step: Step) -> Result<Option<Step>, OutOfMemory>
     requires { length steps.old.items ≤ 32 }
     ensures few { length steps.new.items ≤ 32 }
     ensures ok { IfOk result (λ first. with_first first steps.new.items ≡ steps.old.items ++ step ∷ []) }
     ensures first { IfOk result (λ first. IsOver first (length steps.old.items)) }
     ensures err { OnErr result (steps.new.items ≡ steps.old.items) }
 {
-    steps.push(step)?;
+    steps.push_back(step)?;
     if steps.len() <= MOST {
         return Ok(None);
     }
-    Ok(Some(steps.remove(0)))
+    Ok(steps.pop_front())
 }
 
 /// What was taken off is left to do to the oldest state.
@@ -120,14 +121,20 @@ fn after_late(alloc: Global, oldest: Remade, late: &Option<Late>) -> Result<Rema
     }
 }
 
-/// The state after these firings.
-fn after_all(alloc: Global, first: Remade, steps: &[Step]) -> Result<Remade, OutOfMemory>
-    requires { AreLawful first steps.now }
-    ensures { IfOk result (λ r. r ≡ after_steps first steps.now) }
+/// The state after the first `count` of these firings.
+fn after_first(
+    alloc: Global,
+    first: Remade,
+    steps: &VecDeque<Step>,
+    count: usize,
+) -> Result<Remade, OutOfMemory>
+    requires within { count ≤ length steps.now.items }
+    requires lawful { AreLawful first (take count steps.now.items) }
+    ensures { IfOk result (λ r. r ≡ after_steps first (take count steps.now.items)) }
 {
     let mut remade = first;
-    for step in steps {
-        let fired = &step.fired;
+    for i in 0..count {
+        let fired = &steps[i].fired;
         remade = remade.follow(
             alloc,
             &fired.inst,
@@ -146,7 +153,7 @@ impl Kept {
         Kept {
             oldest,
             late: None,
-            steps: Vec::new(alloc),
+            steps: VecDeque::new(alloc),
         }
     }
 
@@ -190,7 +197,7 @@ impl Kept {
         let oldest = Remade::of(alloc, &self.oldest, classes)?;
         let first = after_late(alloc, oldest, &self.late)?;
         let before = self.steps.len() - n;
-        after_all(alloc, first, &self.steps.as_slice()[..before])
+        after_first(alloc, first, &self.steps, before)
     }
 
     /// The last n states are taken off. Takes no memory.

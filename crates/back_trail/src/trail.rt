@@ -1,5 +1,5 @@
 //! `Trail`, the last firings, each of which can be undone.
-ghost use Rattle.std.specs.Prelude.{◌≡◌, ◌≤◌, ◌<◌, ◌-◌, Some, length, slice_get, IsSome, IfOk, OnOk, OnErr};
+ghost use Rattle.std.specs.Prelude.{◌≡◌, ◌≤◌, ◌<◌, ◌-◌, Some, length, slice_get, IsOk, IsSome, IfOk, OnOk, OnErr};
 ghost use Rattle.ops_base.specs.Names.{Spellings};
 ghost use Rattle.ops_base.specs.WorkingMemory.{Lawful};
 ghost use Rattle.ops_io.specs.Coming.{Coming};
@@ -21,19 +21,21 @@ use std::alloc::Global;
 use std::marker::Model;
 use work_store::{Matcher, Settled};
 
-/// The last firings, 32 at most. It keeps one state whole, the oldest, and of each firing since what it changed.
+/// The last firings, 32 at most. It keeps one state whole, the oldest, and of each firing since what it changed. All of
+/// that stands on the heap, so to move a trail costs little.
 #[derive(Drop)]
 pub struct Trail {
     alloc: Global,
-    kept: Option<Kept>,
+    kept: Option<Box<Kept>>,
 }
 
 impl Model for Trail {
+    ghost use Rattle.std.specs.Prelude.{option_map};
     ghost use Rattle.back_trail.specs.Trails.{Trailed, trail_of};
 
     ghost Value = { Trailed };
 
-    ghost view = { λ t. trail_of t.kept };
+    ghost view = { λ t. trail_of (option_map (λ b. b.value) t.kept) };
 }
 
 impl Trail {
@@ -62,16 +64,17 @@ impl Trail {
         }
     }
 
-    /// Before a firing in this state. Only if nothing is known of it yet, its elements and marks are copied. If memory
-    /// runs out, nothing has changed.
+    /// Before a firing in this state. Its elements and marks are copied only if no state is known yet. If memory runs
+    /// out, nothing has changed.
     pub fn begin<M: Matcher>(&mut self, state: &State<M>) -> Result<(), OutOfMemory>
         requires { (s : Standing) → self.old.now ≡ Some s → s ≡ standing M.stored state.now }
         ensures ok { OnOk result (self.new ≡ record self.old { now = Some (standing M.stored state.now) }) }
         ensures err { OnErr result (self.new ≡ self.old) }
+        ensures known { IsSome self.old.now → IsOk result }
     {
         if self.kept.is_none() {
             let oldest = Oldest::copy_of(self.alloc, state)?;
-            self.kept = Some(Kept::new(self.alloc, oldest));
+            self.kept = Some(Box::new(self.alloc, Kept::new(self.alloc, oldest))?);
         }
         Ok(())
     }

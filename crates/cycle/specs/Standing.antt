@@ -1,9 +1,9 @@
 -- What a firing changes in a state: working memory, the marks, and the last tag.
-use Rattle.std.specs.Prelude.{ℕ, List, [], ◌∷◌, filter, not}
+use Rattle.std.specs.Prelude.{ℕ, List, [], ◌∷◌, ◌↔◌, Contains, filter, not}
 use Rattle.std.specs.Ordering.{match_ordering}
 use Rattle.ops_base.specs.declared.elements.Element.{Element}
 use Rattle.ops_base.specs.declared.rules.Inst.{Inst}
-use Rattle.ops_base.specs.Instances.{by_rule_and_tags}
+use Rattle.ops_base.specs.Instances.{IsInOrder, by_rule_and_tags}
 use Rattle.ops_base.specs.Refraction.{is_among}
 use Rattle.ops_base.specs.WorkingMemory.{done, last_after}
 use Rattle.work_store.specs.Stored.{Stored}
@@ -29,6 +29,11 @@ standing stored s = record {
 abbrev pub with_inst : Inst → List Inst → List Inst
 with_inst i [] = i ∷ []
 with_inst i (j ∷ insts) = match_ordering (by_rule_and_tags i j) (i ∷ j ∷ insts) (i ∷ insts) (j ∷ with_inst i insts)
+
+-- exactly what was found before and is not found now, in order
+pub record AreGone (before now gone : List Inst) : Type 0 where
+  pub are : (i : Inst) → Contains gone i ↔ (Contains before i × ¬ Contains now i)
+  pub in_order : IsInOrder gone
 
 -- these instantiations without those that are gone
 abbrev pub without_gone : List Inst → List Inst → List Inst

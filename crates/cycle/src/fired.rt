@@ -4,8 +4,9 @@ use ops_base::elements::Change;
 use ops_base::list::Listed;
 use ops_base::rules::Inst;
 
-/// What fired, whether a `halt` was done in it, its changes to working memory in order, and the instantiations that
-/// were found before its phase but not after it, in the order of production and tags.
+/// What fired, whether a `halt` was done in it, changes that lead from the working memory before it to the one after it,
+/// in order, and the instantiations that were found before its phase but not after it, in the order of production and
+/// tags.
 #[derive(Drop)]
 pub struct Fired {
     pub inst: Inst,

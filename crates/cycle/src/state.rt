@@ -22,7 +22,7 @@ ghost use Rattle.conflict_index.specs.Applying.{marked};
 ghost use Rattle.conflict_index.specs.Indexed.{insts_of, fired_of, nothing_indexed, waiting, KeepsSpecificities};
 ghost use Rattle.conflict_index.specs.Selecting.{IsFirst};
 ghost use Rattle.cycle.specs.Settles.{Settles};
-ghost use Rattle.cycle.specs.Standing.{after_firing, standing, with_inst, without_gone};
+ghost use Rattle.cycle.specs.Standing.{AreGone, after_firing, standing, with_inst, without_gone};
 ghost use Rattle.cycle.specs.States.{Agree, alone, state_course};
 
 use crate::actor::Actor;
@@ -373,6 +373,7 @@ impl<M: Matcher> State<M> {
         ensures course { IfOk result (λ r. (n : Spellings) (coming : Coming) → state_course M.stored r.0 n coming
             ≡ phase_by (conflict_set program.now.rules) r.1.changes self.firings (last_after (M.stored self.matcher).last r.1.changes) (state_course M.stored self n coming)) }
         ensures marks { IfOk result (λ r. fired_of r.0.index.members ≡ without_gone r.2 (fired_of self.index.members)) }
+        ensures gone { IfOk result (λ r. AreGone (M.found self.matcher) (M.found r.0.matcher) r.2) }
         ensures stands { IfOk result (λ r. M.stands_for r.0.matcher program.now.rules) }
         ensures specificities { IfOk result (λ r. KeepsSpecificities program.now.rules r.0.index.members) }
     {
@@ -452,10 +453,12 @@ impl<M: Matcher> State<M> {
         ensures specificities { IfOk result (λ r. KeepsSpecificities program.now.rules r.0.index.members) }
 
         // What fired was the next instantiation. Its changes can be made in their order to the working memory before
-        // it. These changes and `gone` determine the working memory, the marks and the last tag after it.
+        // it. These changes and `gone` determine the working memory, the marks and the last tag after it. `gone` is what
+        // was found before and is not found after it, in order.
         ensures inst { IfOk result (λ r. next_to_fire program.now.rules (alone M.stored self) ≡ Some r.1.inst) }
         ensures lawful { IfOk result (λ r. Lawful (M.stored self.matcher).elements (M.stored self.matcher).last r.1.changes) }
         ensures leaves { IfOk result (λ r. standing M.stored r.0 ≡ after_firing r.1 (standing M.stored self)) }
+        ensures gone { IfOk result (λ r. AreGone (M.found self.matcher) (M.found r.0.matcher) r.1.gone) }
     {
         let mut state = self;
         // the caller has already looked for the next instantiation; it is looked up here once more

@@ -10,7 +10,7 @@ pub(crate) struct Counting {
 }
 
 impl Counting {
-    pub(crate) fn new() -> Counting {
+    pub(super) fn new() -> Counting {
         Counting {
             calls: AtomicU64::new(0),
             lines: AtomicU64::new(0),
@@ -18,7 +18,7 @@ impl Counting {
     }
 
     /// The number of activations, and the sum of the numbers of their lines.
-    pub(crate) fn counted(&self) -> (u64, u64) {
+    pub(super) fn counted(&self) -> (u64, u64) {
         (
             self.calls.load(Ordering::SeqCst),
             self.lines.load(Ordering::SeqCst),

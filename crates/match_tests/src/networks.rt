@@ -13,7 +13,7 @@ use std::alloc::Global;
 use work_store::Store;
 
 /// An element with one field, 7.
-pub(crate) fn element(alloc: Global, tag: u64, class: usize) -> Result<Element, OutOfMemory>
+pub(super) fn element(alloc: Global, tag: u64, class: usize) -> Result<Element, OutOfMemory>
     ensures { IfOk result (λ e. e ≡ element_of tag class) }
 {
     let fields = Listed::from_array(alloc, [Value::Whole(7)])?;
@@ -21,7 +21,7 @@ pub(crate) fn element(alloc: Global, tag: u64, class: usize) -> Result<Element, 
 }
 
 /// Element 1 is of class 0, and element 2 of class 1.
-pub(crate) fn store_of_two(alloc: Global) -> Result<Store, OutOfMemory>
+pub(super) fn store_of_two(alloc: Global) -> Result<Store, OutOfMemory>
     ensures first { IfOk result (λ s. held_of s 1 ≡ Some (element_of 1 0)) }
     ensures second { IfOk result (λ s. held_of s 2 ≡ Some (element_of 2 1)) }
 {
@@ -120,7 +120,7 @@ fn terminal(alloc: Global, parent: usize, depth: usize) -> Node
     }
 }
 
-pub(crate) fn free(alloc: Global) -> Result<Net, OutOfMemory>
+pub(super) fn free(alloc: Global) -> Result<Net, OutOfMemory>
     ensures { IfOk result (λ net. net.nodes ≡ free) }
 {
     let alphas = two_classes(alloc)?;
@@ -129,7 +129,7 @@ pub(crate) fn free(alloc: Global) -> Result<Net, OutOfMemory>
     Net::new(alloc, alphas, nodes)
 }
 
-pub(crate) fn twin(alloc: Global) -> Result<Net, OutOfMemory>
+pub(super) fn twin(alloc: Global) -> Result<Net, OutOfMemory>
     ensures { IfOk result (λ net. net.nodes ≡ twin) }
 {
     let alphas = one_class(alloc)?;
@@ -138,7 +138,7 @@ pub(crate) fn twin(alloc: Global) -> Result<Net, OutOfMemory>
     Net::new(alloc, alphas, nodes)
 }
 
-pub(crate) fn pair(alloc: Global) -> Result<Net, OutOfMemory>
+pub(super) fn pair(alloc: Global) -> Result<Net, OutOfMemory>
     ensures { IfOk result (λ net. net.nodes ≡ pair) }
 {
     let alphas = two_classes(alloc)?;

@@ -1,4 +1,5 @@
 pub mod Beginnings
+pub mod Backing
 pub mod Endings
 pub mod Shown
 pub mod Rankings

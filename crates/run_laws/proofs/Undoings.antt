@@ -104,7 +104,7 @@ fired_earliest s (suc n) k fired has some few to =
         (last_kept all, ap (option_map (λ es. last_kept (es ++ earlier k.course ∷ []))) is, earliest_kept 1 all (earlier k.course) (omega arith) (earliest_first es (earlier k.course)))
 
 pub firings_undone : (s t : Setting) (limit column n : ℕ) (k fired : Session) → is_some k.trail ≡ true → 1 ≤ n → n ≤ 32 → FireTo s n k fired
-    → (after : Session) × (command_done t limit column (command.Back n) fired ≡ writes [] after) × IsUndone k fired after
+    → (after : Session) × (command_done t limit column (command.Back n) fired ≡ writes [] after) × IsUndone n k fired after
 firings_undone s t limit column n k fired has some few to =
     let h = fired_earliest s n k fired has some few to in
     let states : states_kept fired ≡ h.0 = ap (λ o. unwrap_or o []) h.1 in
@@ -115,7 +115,19 @@ firings_undone s t limit column n k fired has some few to =
       back,
       ap (λ b. cond b (lists column (kept_line (length (states_kept fired)) ∷ []) fired) (writes [] (gone_back_to at fired))) enough
           ∙ ap (λ o. let f : Effect Ending Session = writes [] (unwrap_or (option_map (restored at fired) o) fired) in f) there,
-      record { memory = refl; marks = refl; last_tag = refl; names = refl; firings = refl; strategy = refl; coming = refl; rules = refl; watch = refl; breaks = refl },
+      record {
+        memory = refl;
+        marks = refl;
+        last_tag = refl;
+        names = refl;
+        firings = refl;
+        strategy = refl;
+        coming = refl;
+        rules = refl;
+        watch = refl;
+        breaks = refl;
+        trail = subst (λ o. option_map (take (length (unwrap_or o []) - n)) o ≡ option_map (λ es. take (length es - n) es) o) (sym h.1) refl;
+      },
     )
 
 pub few_kept : (s : Setting) (limit column n : ℕ) (k : Session) → length (states_kept k) < n → command_done s limit column (command.Back n) k ≡ lists column (kept_line (length (states_kept k)) ∷ []) k

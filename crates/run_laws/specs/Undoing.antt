@@ -1,5 +1,7 @@
 -- Consecutive firings, and how `back` undoes them.
-use Rattle.std.specs.Prelude.{◌≡◌, ℕ, zero, suc, Some, None, Ok}
+use Rattle.std.specs.Prelude.{◌≡◌, ℕ, zero, suc, ◌-◌, length, take, option_map, Bool, true, false, Some, None, Ok}
+use Rattle.ops_base.specs.declared.commands.Command.{Command}
+use Rattle.ops_base.specs.declared.commands.Command.TheVariants as command
 use Rattle.ops_base.specs.declared.rules.Inst.{Inst}
 use Rattle.ops_meaning.specs.Acting.{Setting}
 use Rattle.ops_meaning.specs.Running.{Session, Turned, fired_on, firing, next_to_fire}
@@ -13,10 +15,10 @@ FireTo s (suc n) k done =
     × (next_to_fire s.rules k.course ≡ Some i) × ((firing s column i k.course).outcome ≡ Ok t)
     × FireTo s n (fired_on t.course k) done
 
--- After firings and a `back`, working memory, the marks, the last tag and the names are as they were before the
--- firings. The number of firings, the strategy, the input, the productions in force, the trace level and the breaks are
--- as the firings left them.
-pub record IsUndone (before fired after : Session) : Type 0 where
+-- After firings and a `back` of the last n of them, working memory, the marks, the last tag and the names are as they
+-- were before these. The number of firings, the strategy, the input, the productions in force, the trace level and the
+-- breaks are as the firings left them, and so is the trail, but for its last n states.
+pub record IsUndone (n : ℕ) (before fired after : Session) : Type 0 where
   pub memory : after.course.wm ≡ before.course.wm
   pub marks : after.course.fired ≡ before.course.fired
   pub last_tag : after.course.last ≡ before.course.last
@@ -27,6 +29,15 @@ pub record IsUndone (before fired after : Session) : Type 0 where
   pub rules : after.rules ≡ fired.rules
   pub watch : after.watch ≡ fired.watch
   pub breaks : after.breaks ≡ fired.breaks
+  pub trail : after.trail ≡ option_map (λ es. take (length es - n) es) fired.trail
+
+-- After this command no firing before it can be undone. An `excise` is none of these, since it may take out nothing.
+abbrev pub ends_the_trail : Command → Bool
+ends_the_trail (command.Make class puts) = true
+ends_the_trail (command.Remove tags) = true
+ends_the_trail command.RemoveAll = true
+ends_the_trail (command.Add r) = true
+ends_the_trail _ = false
 
 -- the session without its trail
 abbrev pub untrailed : Session → Session

@@ -46,7 +46,7 @@ ghost use Rattle.run_laws.specs.Programs.{AreValid};
 ghost use Rattle.run_laws.specs.Ranking.{HasRank, IsRanking};
 ghost use Rattle.run_laws.specs.Standing.{ranking_in, stands_in};
 ghost use Rattle.run_laws.specs.Telling.{AreTold, told_line};
-ghost use Rattle.run_laws.specs.Undoing.{FireTo, IsUndone, untrailed};
+ghost use Rattle.run_laws.specs.Undoing.{FireTo, IsUndone, ends_the_trail, untrailed};
 ghost use Rattle.why.specs.declared.explaining.BoundInst.{BoundInst};
 ghost use Rattle.why.specs.declared.explaining.Why.TheVariants.{Found};
 ghost use Rattle.why.specs.Bindings.{Binds};
@@ -263,18 +263,26 @@ pub fn bindings_are_told()
 {}
 
 /// `back` undoes firings. After up to 32 consecutive firings, it restores working memory, the marks, the last tag and
-/// the names as they were before, changes nothing else, and prints nothing. A run makes such firings. If fewer are
-/// kept, it changes nothing and prints how many are kept. In a session without `back`, nothing depends on the trail.
+/// the names as they were before, takes these firings off the trail, changes nothing else, and prints nothing. A run makes such firings. If fewer are
+/// kept, it changes nothing and prints how many are kept. `back` of some firings and then of others is `back` of all of
+/// them. After a `make`, a `remove` or a late `p` nothing before it can be undone. In a session without `back`, nothing
+/// depends on the trail.
 pub fn back_undoes_firings()
     ensures undone { (s t : Setting) (limit column n : ℕ) (k fired : Session)
         → is_some k.trail ≡ true → 1 ≤ n → n ≤ 32 → FireTo s n k fired
-        → (after : Session) × (command_done t limit column (Command.Back n) fired ≡ writes [] after) × IsUndone k fired after }
+        → (after : Session) × (command_done t limit column (Command.Back n) fired ≡ writes [] after) × IsUndone n k fired after }
     ensures runs { (s : Setting) (limit column : ℕ) (count : Option ℕ) (k : Session)
         → IfOk (command_done s limit column (Command.Run count) k).outcome
         (λ fired. (n : ℕ) × FireTo (record s { watch = k.watch }) n k fired × (fired.course.firings ≡ k.course.firings + n)) }
     ensures few { (s : Setting) (limit column n : ℕ) (k : Session)
         → length (states_kept k) < n
         → command_done s limit column (Command.Back n) k ≡ lists column (kept_line (length (states_kept k)) ∷ []) k }
+    ensures twice { (s t u : Setting) (limit column m n : ℕ) (k : Session)
+        → 1 ≤ m → 1 ≤ n → m + n ≤ length (states_kept k)
+        → IfOk (command_done s limit column (Command.Back m) k).outcome
+        (λ once. command_done t limit column (Command.Back n) once ≡ command_done u limit column (Command.Back (m + n)) k) }
+    ensures emptied { (s : Setting) (limit column : ℕ) (c : Command) (k : Session)
+        → ends_the_trail c ≡ true → IfOk (command_done s limit column c k).outcome (λ after. states_kept after ≡ []) }
     ensures kept { (s : Setting) (limit : ℕ) (commands : List Command) (names : Spellings) (coming : Coming)
         → IfOk (session_of s limit commands names coming).outcome (λ k. is_some k.trail ≡ list_any is_back commands) }
     ensures unseen { (s : Setting) (limit column : ℕ) (commands : List Command) (k : Session)

@@ -115,8 +115,7 @@ fn fire<
     }
 }
 
-/// The same in a session that may keep its firings. What was before the firing joins the trail. Where there is none it
-/// costs a test.
+/// The same in a session that may keep its firings. The state before the firing joins the trail, if there is one.
 fn fire_kept<
     M: Matcher,
     H: Fn(M, &[Change]) -> Result<Settled<M>, OutOfMemory>,

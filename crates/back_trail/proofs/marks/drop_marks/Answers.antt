@@ -1,6 +1,5 @@
-use Rattle.std.proofs.Common.{◌≡◌, ◌∷◌, [], List, length, ◌∙◌, ap, sym, arith}
+use Rattle.std.proofs.Common.{◌≡◌, ◌∷◌, length, ◌∙◌, ap, sym, arith}
 use Rattle.std.specs.Vec.Iter.{into_iter_items}
-use Rattle.ops_base.specs.declared.rules.Inst.{Inst}
 use Rattle.cycle.specs.Standing.{without_gone}
 use Rattle.back_trail.proofs.MarkLaws.{first_gone, no_items, none_gone, remove_is, sorted_before}
 use Rattle.back_trail.proofs.marks.drop_marks.Goals as goal

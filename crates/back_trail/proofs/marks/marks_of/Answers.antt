@@ -1,6 +1,5 @@
-use Rattle.std.proofs.Common.{◌≡◌, ◌∷◌, ◌++◌, [], List, length, ap, sym, ◌∙◌, append_assoc, arith}
+use Rattle.std.proofs.Common.{◌≡◌, ◌∷◌, ◌++◌, [], length, ap, sym, ◌∙◌, append_assoc, arith}
 use Rattle.std.specs.Vec.Iter.{into_iter_items}
-use Rattle.ops_base.specs.declared.rules.Inst.{Inst}
 use Rattle.cycle.specs.Standing.{with_inst}
 use Rattle.back_trail.proofs.MarkLaws.{put_next}
 use Rattle.back_trail.proofs.marks.marks_of.Goals as goal

@@ -1,5 +1,6 @@
 use Rattle.std.proofs.Common.{◌-◌, None, sym}
 use Rattle.run_laws.proofs.Undoings.{few_kept, firings_undone, run_fires, session_keeps}
+use Rattle.run_laws.proofs.Backing.{back_twice, trail_ended}
 use Rattle.run_laws.proofs.Untrailed.{commands_untrailed}
 use Rattle.run_laws.proofs.laws.back_undoes_firings.Goals as goal
 
@@ -11,6 +12,12 @@ returns-clause-runs c = λ s limit column count k. run_fires (limit - k.course.f
 
 pub returns-clause-few : goal.returns-clause-few
 returns-clause-few c = few_kept
+
+pub returns-clause-twice : goal.returns-clause-twice
+returns-clause-twice c = back_twice
+
+pub returns-clause-emptied : goal.returns-clause-emptied
+returns-clause-emptied c = trail_ended
 
 pub returns-clause-kept : goal.returns-clause-kept
 returns-clause-kept c = session_keeps

@@ -1,7 +1,6 @@
-use Rattle.std.proofs.Common.{◌≡◌, ◌≤◌, ℕ, ◌∙◌, ap, sym, subst, refl, arith}
+use Rattle.std.proofs.Common.{refl, arith}
 use Rattle.ops_base.specs.declared.elements.Change.TheVariants.{Remove}
 use Rattle.work_store.proofs.Doing.{found_to_remove}
-use Rattle.work_store.specs.Stored.{Stored}
 use Rattle.cycle.specs.Standing.{Standing}
 use Rattle.back_trail.proofs.SoundLaws.{held_done, lawful_so}
 use Rattle.back_trail.proofs.oldest.Oldest.make.Goals as goal

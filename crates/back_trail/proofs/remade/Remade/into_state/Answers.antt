@@ -1,9 +1,7 @@
-use Rattle.std.proofs.Common.{◌≡◌, List, [], ap, sym, ◌∙◌}
+use Rattle.std.proofs.Common.{[], ap, ◌∙◌}
 use Rattle.ops_base.specs.ConflictSet.{conflict_set}
 use Rattle.ops_base.specs.Refraction.{still_fired}
 use Rattle.ops_base.specs.WorkingMemory.{done, last_after}
-use Rattle.ops_base.specs.declared.elements.Change.{Change}
-use Rattle.ops_base.specs.declared.rules.Inst.{Inst}
 use Rattle.cycle.specs.Standing.{Standing}
 use Rattle.cycle.specs.States.{Held, state_course}
 use Rattle.live_rules.proofs.Placed.{came_all, came_of, ok_so, same_found}

@@ -1,6 +1,7 @@
-use Rattle.std.proofs.Common.{◌∙◌, ap, sym}
+use Rattle.std.proofs.Common.{◌∙◌, List, ap, subst, sym}
 use Rattle.conflict_index.specs.Indexed.{fired_of}
-use Rattle.cycle.specs.Standing.{without_gone}
+use Rattle.ops_base.specs.declared.rules.Inst.{Inst}
+use Rattle.cycle.specs.Standing.{AreGone, without_gone}
 use Rattle.cycle.specs.States.{Held}
 use Rattle.std.proofs.lemmas.Result.{err_from_is_err_and}
 use Rattle.act_phase.specs.Outcomes.{setting_of}
@@ -91,3 +92,14 @@ returns-clause-acts g c =
     let same = ap (λ (h : Held _). g.M.Matcher.stored h.matcher) c.self.view_is in
     seen_good (λ r. r.1)
     (over_same (setting_of c.args.program.now c.args.watch) c.args.out.now.column c.args.inst.now c.args.names.now (g.M.Matcher.stored c.self.inside.matcher) (g.M.Matcher.stored c.args.self.matcher) same (told_good (λ r. r.0) c.in_ok-acted.ensures.acts))
+
+pub returns-clause-gone : goal.returns-clause-gone
+returns-clause-gone g c =
+    let found = g.M.Matcher.found in
+    let s = c.in_ok-acted.ensures.settled in
+    let was = ap (λ (h : Held _). found h.matcher) c.self.view_is in
+    let is = ap (λ (h : Held _). found h.matcher) c.of.ensures in
+    let P : List Inst → Type 0 = λ l. AreGone (found c.args.self.matcher) (found c.of.result.matcher) l in
+    let Q : List Inst → Type 0 = λ l. AreGone (found c.args.self.matcher) l c.in_ok-acted.settled.gone.items in
+    let R : List Inst → Type 0 = λ l. AreGone l (found c.in_ok-acted.settled.matcher) c.in_ok-acted.settled.gone.items in
+    subst P (sym c.from_vec.ensures) (subst Q (sym is) (subst R was (record { are = s.gone_is; in_order = s.gone_in_order })))

@@ -7,6 +7,7 @@ use Rattle.act_phase.specs.Asking.{right_side_asks}
 use Rattle.act_phase.specs.Outcomes.{setting_of}
 use Rattle.conflict_index.specs.Indexed.{Member, KeepsSpecificities}
 use Rattle.work_store.specs.Stored.{Stored}
+use Rattle.cycle.specs.Standing.{AreGone}
 use Rattle.cycle.specs.States.{Held, no_names, no_input, state_course}
 use Rattle.cycle.proofs.HeldAfter.{nothing_left, held_after}
 use Rattle.cycle.proofs.Marks.{some_copied, next_member, marked_specificities}
@@ -105,3 +106,9 @@ pub returns-clause-leaves : goal.returns-clause-leaves
 returns-clause-leaves g c =
     leaves g.M.Matcher.stored c.args.self c.mark.new.self c.in_ok-state.state c.in_ok-inst.inst c.in_ok-state.acted.halted c.in_ok-state.acted.changes c.in_ok-state.gone
     c.in_ok-state.acted.changes refl (conflict_set c.args.program.now.rules) c.mark.ensures.marked c.mark.ensures.marks (λ names coming. c.in_ok-state.ensures.course names coming) c.in_ok-state.ensures.marks
+
+pub returns-clause-gone : goal.returns-clause-gone
+returns-clause-gone g c =
+    let found = g.M.Matcher.found in
+    let P : List Inst → Type 0 = λ l. AreGone l (found c.in_ok-state.state.matcher) c.in_ok-state.gone in
+    subst P (ap (λ (k : Held _). found k.matcher) c.mark.ensures.marked) c.in_ok-state.ensures.gone
