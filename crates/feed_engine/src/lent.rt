@@ -1,6 +1,6 @@
 //! `LentActor`, an actor that borrows the closure by which it acts.
 ghost use Rattle.std.specs.Prelude.{◌≡◌};
-ghost use Rattle.feed_engine.specs.Lent.{ActsBy};
+ghost use Rattle.feed_engine.specs.Lent.{ActsBy, matching, streams};
 
 use act_phase::{ActFault, Acted};
 use cycle::Actor;
@@ -50,7 +50,7 @@ impl<
         &mut K,
     ) -> Result<(Acted, Settled<M>), ActFault>,
 > Actor<M, I, K> for LentActor<'a, M, F> {
-    ghost able = { λ f. ActsBy M.stored M.found M.stands_for I.left I.faults K.taken K.faults
+    ghost able = { λ f. ActsBy (matching M.stored M.found M.stands_for) (streams I.left I.faults K.taken K.faults)
         (λ alloc program names matcher inst watch input source out sink. F.pre f.act.now alloc program names matcher inst watch input source out sink)
         (λ alloc program names matcher inst watch input source out sink r names' input' source' out' sink'. F.post f.act.now alloc program names matcher inst watch input source out sink r names' input' source' out' sink') };
 

@@ -11,8 +11,8 @@ use Rattle.ops_jobs.proofs.Spelling.{spelled_as_read}
 
 option_not_flag : (name : Word) → is_option name ≡ true → (flag : Word) → is_flag flag ≡ true → bytes_eq name flag ≡ false
 option_not_flag = each_option (λ name. (flag : Word) → is_flag flag ≡ true → bytes_eq name flag ≡ false)
-    (each_flag (λ flag. bytes_eq (codes "match") flag ≡ false) refl refl refl) (each_flag (λ flag. bytes_eq (codes "workers") flag ≡ false) refl refl refl)
-    (each_flag (λ flag. bytes_eq (codes "lines") flag ≡ false) refl refl refl) (each_flag (λ flag. bytes_eq (codes "limit") flag ≡ false) refl refl refl)
+    (each_flag (λ flag. bytes_eq (codes "match") flag ≡ false) refl refl refl refl) (each_flag (λ flag. bytes_eq (codes "workers") flag ≡ false) refl refl refl refl)
+    (each_flag (λ flag. bytes_eq (codes "lines") flag ≡ false) refl refl refl refl) (each_flag (λ flag. bytes_eq (codes "limit") flag ≡ false) refl refl refl refl)
 
 files_have_no_values : (flag : Word) (names : List Word) → values_of flag (map file names) ≡ []
 files_have_no_values flag [] = refl

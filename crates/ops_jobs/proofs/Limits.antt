@@ -14,9 +14,9 @@ use Rattle.ops_jobs.specs.declared.jobs.Engine.TheVariants.{Direct, Serial, Roun
 use Rattle.ops_jobs.specs.declared.jobs.Options.{Options}
 use Rattle.ops_jobs.specs.declared.jobs.Job.{Job}
 use Rattle.ops_jobs.specs.declared.jobs.Job.TheVariants.{Run, Net, Gen, Why}
-use Rattle.ops_jobs.specs.CommandLine.{Piece, Word, engine_from, files_of, is_complete, is_flag, is_number, is_option, is_raised, job_by, job_from, job_of, number_from, number_of, options_of, pieces_of, value_of, workload_of}
+use Rattle.ops_jobs.specs.CommandLine.{Piece, Word, engine_from, files_of, is_complete, is_mode, is_number, is_option, is_raised, job_by, job_from, job_of, number_from, number_of, options_of, pieces_of, value_of, workload_of}
 use Rattle.ops_jobs.specs.Laws.{IsExplanation, IsWithinLimits, IsWorkload, KeepsLimits}
-use Rattle.ops_jobs.proofs.EachOption.{each_flag, each_option}
+use Rattle.ops_jobs.proofs.EachOption.{each_mode, each_option}
 
 -- ---- a number
 
@@ -66,17 +66,17 @@ record AreFrom (engine : Option Engine) (workers lines limit : Option ℕ) (o : 
   lines_are : lines ≡ Some o.lines
   limit_is : limit ≡ Some o.limit
 
-abbrev joined : Option Engine → Option ℕ → Option ℕ → Option ℕ → Option Options
-joined engine workers lines limit =
-    option_and_then (λ e. option_and_then (λ w. option_and_then (λ l. option_map (λ n. record { engine = e; workers = w; lines = l; limit = n }) limit) lines) workers) engine
+abbrev joined : Option Engine → Option ℕ → Option ℕ → Option ℕ → Bool → Option Options
+joined engine workers lines limit overlap =
+    option_and_then (λ e. option_and_then (λ w. option_and_then (λ l. option_map (λ n. record { engine = e; workers = w; lines = l; limit = n; overlap = overlap }) limit) lines) workers) engine
 
-from_all : (engine : Option Engine) (workers lines limit : Option ℕ) (o : Options) → joined engine workers lines limit ≡ Some o → AreFrom engine workers lines limit o
-from_all None w l n o e = absurd (true≢false (sym (ap is_some e)))
-from_all (Some en) None l n o e = absurd (true≢false (sym (ap is_some e)))
-from_all (Some en) (Some w) None n o e = absurd (true≢false (sym (ap is_some e)))
-from_all (Some en) (Some w) (Some l) None o e = absurd (true≢false (sym (ap is_some e)))
-from_all (Some en) (Some w) (Some l) (Some n) o e =
-    let same : ◌≡◌ {A = Options} (record { engine = en; workers = w; lines = l; limit = n }) o = cc in
+from_all : (engine : Option Engine) (workers lines limit : Option ℕ) (overlap : Bool) (o : Options) → joined engine workers lines limit overlap ≡ Some o → AreFrom engine workers lines limit o
+from_all None w l n b o e = absurd (true≢false (sym (ap is_some e)))
+from_all (Some en) None l n b o e = absurd (true≢false (sym (ap is_some e)))
+from_all (Some en) (Some w) None n b o e = absurd (true≢false (sym (ap is_some e)))
+from_all (Some en) (Some w) (Some l) None b o e = absurd (true≢false (sym (ap is_some e)))
+from_all (Some en) (Some w) (Some l) (Some n) b o e =
+    let same : ◌≡◌ {A = Options} (record { engine = en; workers = w; lines = l; limit = n; overlap = b }) o = cc in
     record {
       engine_is = ap (λ (x : Options). Some x.engine) same;
       workers_are = ap (λ (x : Options). Some x.workers) same;
@@ -111,7 +111,7 @@ of_words words job e = go (pieces_of words) refl e
 
 options_within : (pieces : List Piece) (options : Options) → options_of pieces ≡ Some options → IsWithinLimits options
 options_within pieces o from =
-    let all = from_all _ _ _ _ o from in
+    let all = from_all _ _ _ _ _ o from in
     let workers = number_within DEFAULT_WORKERS GREATEST_WORKERS (value_of (codes "workers") pieces) o.workers (omega arith) (omega arith) all.workers_are in
     let lines = number_within DEFAULT_LINES GREATEST_LINES (value_of (codes "lines") pieces) o.lines (omega arith) (omega arith) all.lines_are in
     let limit = number_within DEFAULT_LIMIT GREATEST_LIMIT (value_of (codes "limit") pieces) o.limit (omega arith) (omega arith) all.limit_is in
@@ -224,7 +224,7 @@ engine_not_dashed word engine e =
 value_not_dashed : (pieces : List Piece) (o : Options) → options_of pieces ≡ Some o → (option : Word) → is_option option ≡ true → (value : Word) → value_of option pieces ≡ Some value
     → slice_index value 0 ≢ 45
 value_not_dashed pieces o from =
-    let all = from_all _ _ _ _ o from in
+    let all = from_all _ _ _ _ _ o from in
     each_option (λ option. (value : Word) → value_of option pieces ≡ Some value → slice_index value 0 ≢ 45)
     (λ value is. engine_not_dashed value o.engine (sym (ap engine_from is) ∙ all.engine_is))
     (λ value is. number_not_dashed DEFAULT_WORKERS GREATEST_WORKERS value o.workers (sym (ap (number_from DEFAULT_WORKERS GREATEST_WORKERS) is) ∙ all.workers_are))
@@ -238,9 +238,9 @@ no_dashed_value words job pieces option value e are known is =
     let same : of.0 ≡ pieces = cc in
     value_not_dashed of.0 of.2.options of.2.from option known value (rw same is)
 
--- ---- the flags
+-- ---- the modes
 
--- the job of these flags
+-- the job of these modes
 abbrev flagged_job : List Piece → (gen net why : Bool) → Options → Option Job
 flagged_job pieces gen net why options = job_by gen net why options (files_of pieces)
 
@@ -290,7 +290,7 @@ explanation_of_files words job pieces e are raised =
     (sym (ap (λ t. flagged_job pieces (is_raised (codes "gen") pieces) (is_raised (codes "net") pieces) t of.options) raised) ∙ of.job_is) in
     record { options = of.options; from = of.from; is = is }
 
--- ---- one flag alone
+-- ---- one mode alone
 
 -- which variant a job is
 abbrev variant_of : Job → ℕ
@@ -303,22 +303,22 @@ abbrev variant_for : Word → ℕ
 variant_for flag = cond (bytes_eq flag (codes "net")) 1 (cond (bytes_eq flag (codes "gen")) 2 3)
 
 -- the flag tells the variant of the job
-told_by : (words : List Word) (job : Job) (pieces : List Piece) → job_of words ≡ Some job → pieces_of words ≡ Some pieces → (flag : Word) → is_flag flag ≡ true
+told_by : (words : List Word) (job : Job) (pieces : List Piece) → job_of words ≡ Some job → pieces_of words ≡ Some pieces → (flag : Word) → is_mode flag ≡ true
     → is_raised flag pieces ≡ true → variant_of job ≡ variant_for flag
 told_by words job pieces e are =
-    each_flag (λ flag. is_raised flag pieces ≡ true → variant_of job ≡ variant_for flag)
+    each_mode (λ flag. is_raised flag pieces ≡ true → variant_of job ≡ variant_for flag)
     (λ raised. ap variant_of (workload_of_numbers words job pieces e are raised).is)
     (λ raised. ap variant_of (network_of_files words job pieces e are raised))
     (λ raised. ap variant_of (explanation_of_files words job pieces e are raised).is)
 
-same_variant : (one : Word) → is_flag one ≡ true → (other : Word) → is_flag other ≡ true → variant_for one ≡ variant_for other → one ≡ other
+same_variant : (one : Word) → is_mode one ≡ true → (other : Word) → is_mode other ≡ true → variant_for one ≡ variant_for other → one ≡ other
 same_variant =
-    each_flag (λ one. (other : Word) → is_flag other ≡ true → variant_for one ≡ variant_for other → one ≡ other)
-    (each_flag (λ other. 2 ≡ variant_for other → codes "gen" ≡ other) (λ e. refl) (λ e. absurd (omega arith)) (λ e. absurd (omega arith)))
-    (each_flag (λ other. 1 ≡ variant_for other → codes "net" ≡ other) (λ e. absurd (omega arith)) (λ e. refl) (λ e. absurd (omega arith)))
-    (each_flag (λ other. 3 ≡ variant_for other → codes "why" ≡ other) (λ e. absurd (omega arith)) (λ e. absurd (omega arith)) (λ e. refl))
+    each_mode (λ one. (other : Word) → is_mode other ≡ true → variant_for one ≡ variant_for other → one ≡ other)
+    (each_mode (λ other. 2 ≡ variant_for other → codes "gen" ≡ other) (λ e. refl) (λ e. absurd (omega arith)) (λ e. absurd (omega arith)))
+    (each_mode (λ other. 1 ≡ variant_for other → codes "net" ≡ other) (λ e. absurd (omega arith)) (λ e. refl) (λ e. absurd (omega arith)))
+    (each_mode (λ other. 3 ≡ variant_for other → codes "why" ≡ other) (λ e. absurd (omega arith)) (λ e. absurd (omega arith)) (λ e. refl))
 
-pub one_flag : (words : List Word) (job : Job) (pieces : List Piece) (one other : Word) → job_of words ≡ Some job → pieces_of words ≡ Some pieces
-    → is_flag one ≡ true → is_flag other ≡ true → is_raised one pieces ≡ true → is_raised other pieces ≡ true → one ≡ other
-one_flag words job pieces one other e are first second raised also =
+pub one_mode : (words : List Word) (job : Job) (pieces : List Piece) (one other : Word) → job_of words ≡ Some job → pieces_of words ≡ Some pieces
+    → is_mode one ≡ true → is_mode other ≡ true → is_raised one pieces ≡ true → is_raised other pieces ≡ true → one ≡ other
+one_mode words job pieces one other e are first second raised also =
     same_variant one first other second (sym (told_by words job pieces e are one first raised) ∙ told_by words job pieces e are other second also)

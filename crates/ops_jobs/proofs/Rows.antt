@@ -1,12 +1,12 @@
 -- Rows of words with what they ask for, which the definition computes.
-use Rattle.std.proofs.Common.{◌≡◌, [], ◌∷◌, Some, None, codes, refl}
+use Rattle.std.proofs.Common.{◌≡◌, [], ◌∷◌, true, false, Some, None, codes, refl}
 use Rattle.ops_jobs.specs.CommandLine.{Word, job_of, pieces_from}
 use Rattle.ops_jobs.specs.declared.jobs.Engine.TheVariants.{Direct, Serial, Rounds, Free, Steal}
 use Rattle.ops_jobs.specs.declared.jobs.Options.{Options}
 use Rattle.ops_jobs.specs.declared.jobs.Job.TheVariants.{Gen, Net, Run, Why}
 
 abbrev usual : Options
-usual = record { engine = Free; workers = 4; lines = 1024; limit = 1000000 }
+usual = record { engine = Free; workers = 4; lines = 1024; limit = 1000000; overlap = false }
 
 -- a word of no bytes
 abbrev empty : Word
@@ -24,7 +24,7 @@ an_option_among_files : job_of (codes "a" ∷ codes "--lines" ∷ codes "8" ∷ 
 unfolding pieces_from
 an_option_among_files = refl
 
-all_options : job_of (codes "--match" ∷ codes "direct" ∷ codes "--workers=64" ∷ codes "--lines" ∷ codes "65536" ∷ codes "--limit=1000000000" ∷ codes "a" ∷ []) ≡ Some (Run (record { engine = Direct; workers = 64; lines = 65536; limit = 1000000000 }) (codes "a" ∷ []))
+all_options : job_of (codes "--match" ∷ codes "direct" ∷ codes "--workers=64" ∷ codes "--lines" ∷ codes "65536" ∷ codes "--limit=1000000000" ∷ codes "a" ∷ []) ≡ Some (Run (record { engine = Direct; workers = 64; lines = 65536; limit = 1000000000; overlap = false }) (codes "a" ∷ []))
 unfolding pieces_from
 all_options = refl
 
@@ -287,3 +287,31 @@ an_explanation_of_a_workload = refl
 an_explanation_with_a_value : job_of (codes "--why=1" ∷ codes "f" ∷ []) ≡ None
 unfolding pieces_from
 an_explanation_with_a_value = refl
+
+overlapped : job_of (codes "f" ∷ codes "--overlap" ∷ codes "--match=serial" ∷ []) ≡ Some (Run (record usual { engine = Serial; overlap = true }) (codes "f" ∷ []))
+unfolding pieces_from
+overlapped = refl
+
+an_overlapped_workload : job_of (codes "--gen" ∷ codes "--overlap" ∷ codes "7" ∷ codes "1" ∷ []) ≡ Some (Gen (record usual { overlap = true }) 7 1)
+unfolding pieces_from
+an_overlapped_workload = refl
+
+an_overlapped_explanation : job_of (codes "--overlap" ∷ codes "--why" ∷ codes "f" ∷ []) ≡ Some (Why (record usual { overlap = true }) (codes "f" ∷ []))
+unfolding pieces_from
+an_overlapped_explanation = refl
+
+an_overlapped_network : job_of (codes "--overlap" ∷ codes "--net" ∷ codes "f" ∷ []) ≡ Some (Net (codes "f" ∷ []))
+unfolding pieces_from
+an_overlapped_network = refl
+
+overlapped_twice : job_of (codes "--overlap" ∷ codes "--overlap" ∷ codes "f" ∷ []) ≡ None
+unfolding pieces_from
+overlapped_twice = refl
+
+overlapped_with_a_value : job_of (codes "--overlap=1" ∷ codes "f" ∷ []) ≡ None
+unfolding pieces_from
+overlapped_with_a_value = refl
+
+overlapped_without_a_file : job_of (codes "--overlap" ∷ []) ≡ None
+unfolding pieces_from
+overlapped_without_a_file = refl

@@ -96,7 +96,7 @@ sort-apart : (option : Word) → is_option option ≡ true → sort_of (codes "-
 sort-apart = each_option (λ option. sort_of (codes "--" ++ option) ≡ opens option) refl refl refl refl
 
 sort-raised : (flag : Word) → is_flag flag ≡ true → sort_of (codes "--" ++ flag) ≡ raises flag
-sort-raised = each_flag (λ flag. sort_of (codes "--" ++ flag) ≡ raises flag) refl refl refl
+sort-raised = each_flag (λ flag. sort_of (codes "--" ++ flag) ≡ raises flag) refl refl refl refl
 
 sort-named : (name : Word) → is_dashed name ≡ false → sort_of name ≡ names
 sort-named [] plain = refl

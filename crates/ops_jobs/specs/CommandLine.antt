@@ -24,10 +24,17 @@ is_option name = list_any (λ option. bytes_eq option name) option_names
 
 -- flags take no value
 abbrev pub flag_names : List Word
-flag_names = codes "gen" ∷ codes "net" ∷ codes "why" ∷ []
+flag_names = codes "gen" ∷ codes "net" ∷ codes "why" ∷ codes "overlap" ∷ []
 
 abbrev pub is_flag : Word → Bool
 is_flag name = list_any (λ flag. bytes_eq flag name) flag_names
+
+-- the flags that say what is done with the names
+abbrev pub mode_names : List Word
+mode_names = codes "gen" ∷ codes "net" ∷ codes "why" ∷ []
+
+abbrev pub is_mode : Word → Bool
+is_mode name = list_any (λ mode. bytes_eq mode name) mode_names
 
 -- two bytes or more, of which the first is `-`
 abbrev pub is_dashed : Word → Bool
@@ -160,21 +167,22 @@ abbrev pub engine_from : Option Word → Option Engine
 engine_from None = Some Free
 engine_from (Some word) = engine_named word
 
--- the options, by the values that they were given
-abbrev pub options_from : Option Word → Option Word → Option Word → Option Word → Option Options
-options_from matching workers lines limit =
-    option_and_then (λ e. option_and_then (λ w. option_and_then (λ l. option_map (λ n. record { engine = e; workers = w; lines = l; limit = n })
+-- the options, by the values that they were given, and by whether `--overlap` stands
+abbrev pub options_from : Option Word → Option Word → Option Word → Option Word → Bool → Option Options
+options_from matching workers lines limit overlap =
+    option_and_then (λ e. option_and_then (λ w. option_and_then (λ l. option_map (λ n. record { engine = e; workers = w; lines = l; limit = n; overlap = overlap })
     (number_from DEFAULT_LIMIT GREATEST_LIMIT limit))
     (number_from DEFAULT_LINES GREATEST_LINES lines))
     (number_from DEFAULT_WORKERS GREATEST_WORKERS workers))
     (engine_from matching)
 
-abbrev pub options_of : List Piece → Option Options
-options_of pieces = options_from (value_of (codes "match") pieces) (value_of (codes "workers") pieces) (value_of (codes "lines") pieces) (value_of (codes "limit") pieces)
-
 -- the flag of this name stands
 abbrev pub is_raised : Word → List Piece → Bool
 is_raised flag pieces = nat_le 1 (length (values_of flag pieces))
+
+abbrev pub options_of : List Piece → Option Options
+options_of pieces =
+    options_from (value_of (codes "match") pieces) (value_of (codes "workers") pieces) (value_of (codes "lines") pieces) (value_of (codes "limit") pieces) (is_raised (codes "overlap") pieces)
 
 -- a seed and a size, and nothing else
 abbrev pub workload_of : Options → List Word → Option Job
@@ -183,7 +191,7 @@ workload_of options (seed ∷ size ∷ []) =
 workload_of options _ = None
 
 -- The names are those of files, or with `--gen` a seed and a size. The options have no effect with `--net`, and two
--- flags together ask for nothing.
+-- modes together ask for nothing.
 abbrev pub job_by : (gen net why : Bool) → Options → List Word → Option Job
 job_by false false false options words = Some (Run options words)
 job_by false false true options words = Some (Why options words)

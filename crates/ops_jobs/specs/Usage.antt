@@ -2,4 +2,4 @@
 use Rattle.std.specs.Prelude.{ℕ, List, codes}
 
 abbrev pub usage_line : List ℕ
-usage_line = codes "usage: ops [--match direct|serial|rounds|free|steal] [--workers N] [--lines L] [--limit N] FILE.. | ops --gen SEED SIZE | ops --net FILE.. | ops --why FILE..\n"
+usage_line = codes "usage: ops [--match direct|serial|rounds|free|steal] [--workers N] [--lines L] [--limit N] [--overlap] FILE.. | ops --gen SEED SIZE | ops --net FILE.. | ops --why FILE..\n"

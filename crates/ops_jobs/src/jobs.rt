@@ -49,6 +49,8 @@ pub struct Options {
     pub lines: usize,
     /// How many firings a session makes at most.
     pub limit: u64,
+    /// Whether the match goes on while a right side waits for input.
+    pub overlap: bool,
 }
 
 /// What the words of the command line ask for.

@@ -1,6 +1,6 @@
 //! Laws of the words that hold of the definitions alone: the contracts of functions that do nothing.
 ghost use Rattle.std.specs.Prelude.{◌≡◌, ◌↔◌, ◌≢◌, List, Some, true, codes, slice_index};
-ghost use Rattle.ops_jobs.specs.CommandLine.{Word, Piece, files_of, is_flag, is_option, is_raised, job_of, pieces_of, value_of};
+ghost use Rattle.ops_jobs.specs.CommandLine.{Word, Piece, files_of, is_mode, is_option, is_raised, job_of, pieces_of, value_of};
 ghost use Rattle.ops_jobs.specs.Laws.{IsExplanation, IsWorkload, KeepsLimits, SayTheSame, Spells};
 ghost use Rattle.ops_jobs.specs.declared.jobs.Job.{Job};
 ghost use Rattle.ops_jobs.specs.declared.jobs.Job.TheVariants.{Net};
@@ -45,8 +45,8 @@ pub fn explanations_are_of_files()
         → is_raised (codes "why") pieces ≡ true → IsExplanation pieces job }
 {}
 
-/// No two flags stand together.
+/// No two of `--gen`, `--net` and `--why` stand together.
 pub fn flags_stand_alone()
     ensures { (words : List Word) (job : Job) (pieces : List Piece) (one other : Word) → job_of words ≡ Some job → pieces_of words ≡ Some pieces
-        → is_flag one ≡ true → is_flag other ≡ true → is_raised one pieces ≡ true → is_raised other pieces ≡ true → one ≡ other }
+        → is_mode one ≡ true → is_mode other ≡ true → is_raised one pieces ≡ true → is_raised other pieces ≡ true → one ≡ other }
 {}

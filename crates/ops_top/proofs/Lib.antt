@@ -1,4 +1,5 @@
 pub mod Inputs
+pub mod Crossing
 pub mod Deliveries
 pub mod Sessions
 pub mod Contents

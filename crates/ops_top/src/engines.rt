@@ -17,6 +17,7 @@ ghost use Rattle.why_lines.specs.Explained.{explained_if};
 
 use crate::answer::{Hands, answer_over};
 use crate::makers::{DirectMaker, FreeMaker, RoundsMaker, SerialMaker, StealMaker};
+use crate::overlapping::answer_overlapped;
 use cycle::{InTurn, Maker};
 use free_engine::FreeEngine;
 use ops_base::elements::Change;
@@ -44,14 +45,16 @@ pub(crate) struct Plan {
 }
 
 /// The answer to a program whose session runs over the matchers of this maker, which this closure settles after each
-/// right side.
+/// right side, and with `--overlap` while it waits for its input, too.
 fn answer_by<
-    M: Matcher,
+    R: Threads,
+    M: Matcher + Send,
     B: Maker<M = M>,
-    H: Fn(M, &[Change]) -> Result<Settled<M>, OutOfMemory>,
+    H: Fn(M, &[Change]) -> Result<Settled<M>, OutOfMemory> + Sync,
     I: Source,
     K: Sink,
 >(
+    rt: &R,
     alloc: Global,
     settle: &H,
     program: Program,
@@ -74,6 +77,9 @@ fn answer_by<
         (devices (I.left source.old) (I.faults source.old) (K.taken sink.old) (K.faults sink.old))
         (devices (I.left source.new) (I.faults source.new) (K.taken sink.new) (K.faults sink.new)) }
 {
+    if plan.options.overlap {
+        return answer_overlapped(rt, alloc, settle, program, names, maker, plan, source, sink);
+    }
     let actor = InTurn::new(settle);
     let hands = Hands {
         settle,
@@ -82,8 +88,15 @@ fn answer_by<
     answer_over(alloc, &hands, program, names, maker, plan, source, sink)
 }
 
-/// The answer to a program whose session runs over matchers that settle on the calling thread alone.
-fn answer_alone<M: Matcher<Hand = ()>, B: Maker<M = M>, I: Source, K: Sink>(
+/// The answer to a program whose session runs over matchers that settle on one thread alone.
+fn answer_alone<
+    R: Threads + Sync,
+    M: Matcher<Hand = ()> + Send,
+    B: Maker<M = M>,
+    I: Source,
+    K: Sink,
+>(
+    rt: &R,
     alloc: Global,
     program: Program,
     names: &mut Names,
@@ -111,11 +124,11 @@ fn answer_alone<M: Matcher<Hand = ()>, B: Maker<M = M>, I: Source, K: Sink>(
         ensures settled { IfOk result (λ s. IsSettled (M.found matcher) (M.found s.matcher) s.gone.items s.come.items) }
         ensures stands { IfOk result (λ s. (rules : List Rule) → M.stands_for matcher rules → M.stands_for s.matcher rules) }
     { matcher.settle(alloc, &mut (), changes) };
-    answer_by(alloc, &hand, program, names, maker, plan, source, sink)
+    answer_by(rt, alloc, &hand, program, names, maker, plan, source, sink)
 }
 
 /// The answer to a program whose session runs over the engine of rounds, which shares its rounds among threads.
-fn answer_in_rounds<R: Threads + Sync, I: Source, K: Sink, G: Gate + Copy>(
+fn answer_in_rounds<R: Threads + Sync, I: Source, K: Sink, G: Gate + Copy + Send>(
     rt: &R,
     alloc: Global,
     program: Program,
@@ -153,11 +166,11 @@ fn answer_in_rounds<R: Threads + Sync, I: Source, K: Sink, G: Gate + Copy>(
         ensures settled { IfOk result (λ s. IsSettled (found_over rounds.net.alphas rounds.net.nodes rounds.store.elements) (found_over s.matcher.net.alphas s.matcher.net.nodes s.matcher.store.elements) s.gone.items s.come.items) }
         ensures stands { IfOk result (λ s. (rules : List Rule) → NetOf rounds.net rules → NetOf s.matcher.net rules) }
     { rounds.settle_in_rounds(rt, alloc, changes) };
-    answer_by(alloc, &hand, program, names, &maker, plan, source, sink)
+    answer_by(rt, alloc, &hand, program, names, &maker, plan, source, sink)
 }
 
 /// The answer to a program whose session runs over the engine of free workers, which wait for each other.
-fn answer_freely<R: Threads + Wait + Sync, I: Source, K: Sink, G: Gate + Copy>(
+fn answer_freely<R: Threads + Wait + Sync, I: Source, K: Sink, G: Gate + Copy + Send>(
     rt: &R,
     alloc: Global,
     program: Program,
@@ -195,11 +208,11 @@ fn answer_freely<R: Threads + Wait + Sync, I: Source, K: Sink, G: Gate + Copy>(
         ensures settled { IfOk result (λ s. IsSettled (found_over free.net.alphas free.net.nodes free.store.elements) (found_over s.matcher.net.alphas s.matcher.net.nodes s.matcher.store.elements) s.gone.items s.come.items) }
         ensures stands { IfOk result (λ s. (rules : List Rule) → NetOf free.net rules → NetOf s.matcher.net rules) }
     { free.settle_freely(rt, alloc, changes) };
-    answer_by(alloc, &hand, program, names, &maker, plan, source, sink)
+    answer_by(rt, alloc, &hand, program, names, &maker, plan, source, sink)
 }
 
 /// The answer to a program whose session runs over the stealing engine, whose workers wait for each other.
-fn answer_by_stealing<R: Threads + Wait + Sync, I: Source, K: Sink, G: Gate + Copy>(
+fn answer_by_stealing<R: Threads + Wait + Sync, I: Source, K: Sink, G: Gate + Copy + Send>(
     rt: &R,
     alloc: Global,
     program: Program,
@@ -237,12 +250,12 @@ fn answer_by_stealing<R: Threads + Wait + Sync, I: Source, K: Sink, G: Gate + Co
         ensures settled { IfOk result (λ s. IsSettled (found_over steal.net.alphas steal.net.nodes steal.store.elements) (found_over s.matcher.net.alphas s.matcher.net.nodes s.matcher.store.elements) s.gone.items s.come.items) }
         ensures stands { IfOk result (λ s. (rules : List Rule) → NetOf steal.net rules → NetOf s.matcher.net rules) }
     { steal.settle_shared(rt, alloc, changes) };
-    answer_by(alloc, &hand, program, names, &maker, plan, source, sink)
+    answer_by(rt, alloc, &hand, program, names, &maker, plan, source, sink)
 }
 
 /// The answer to a program whose session runs over the engine that the plan asks for, which waits for no turn of another
 /// thread.
-pub(crate) fn answer_still<R: Threads + Sync, I: Source, K: Sink, G: Gate + Copy>(
+pub(crate) fn answer_still<R: Threads + Sync, I: Source, K: Sink, G: Gate + Copy + Send>(
     rt: &R,
     alloc: Global,
     program: Program,
@@ -267,11 +280,13 @@ pub(crate) fn answer_still<R: Threads + Sync, I: Source, K: Sink, G: Gate + Copy
         (devices (I.left source.new) (I.faults source.new) (K.taken sink.new) (K.faults sink.new)) }
 {
     match plan.options.engine {
-        Engine::Direct => { answer_alone(alloc, program, names, &DirectMaker, plan, source, sink) }
+        Engine::Direct => {
+            answer_alone(rt, alloc, program, names, &DirectMaker, plan, source, sink)
+        }
         Engine::Serial => {
             let lines = plan.options.lines;
             let maker = SerialMaker { lines, gate };
-            answer_alone(alloc, program, names, &maker, plan, source, sink)
+            answer_alone(rt, alloc, program, names, &maker, plan, source, sink)
         }
         Engine::Rounds => { answer_in_rounds(rt, alloc, program, names, plan, source, sink, gate) }
         Engine::Free | Engine::Steal => unreachable!(),
@@ -279,7 +294,7 @@ pub(crate) fn answer_still<R: Threads + Sync, I: Source, K: Sink, G: Gate + Copy
 }
 
 /// The answer to a program whose session runs over the engine that the plan asks for.
-pub(crate) fn answer_program<R: Threads + Wait + Sync, I: Source, K: Sink, G: Gate + Copy>(
+pub(crate) fn answer_program<R: Threads + Wait + Sync, I: Source, K: Sink, G: Gate + Copy + Send>(
     rt: &R,
     alloc: Global,
     program: Program,

@@ -171,7 +171,7 @@ fn plan_of(job: &Job) -> Option<Plan>
 }
 
 /// Runs a job whose engine waits for no turn of another thread.
-pub(crate) fn run_still<R: Threads + Sync, H: Shelf, I: Source, K: Sink, G: Gate + Copy>(
+pub(crate) fn run_still<R: Threads + Sync, H: Shelf, I: Source, K: Sink, G: Gate + Copy + Send>(
     rt: &R,
     alloc: Global,
     job: &Job,
@@ -202,7 +202,13 @@ pub(crate) fn run_still<R: Threads + Sync, H: Shelf, I: Source, K: Sink, G: Gate
 }
 
 /// Runs a job over any engine.
-pub(crate) fn run_job<R: Threads + Wait + Sync, H: Shelf, I: Source, K: Sink, G: Gate + Copy>(
+pub(crate) fn run_job<
+    R: Threads + Wait + Sync,
+    H: Shelf,
+    I: Source,
+    K: Sink,
+    G: Gate + Copy + Send,
+>(
     rt: &R,
     alloc: Global,
     job: &Job,

@@ -9,6 +9,7 @@ mod jobs;
 mod laws;
 mod lines;
 mod makers;
+mod overlapping;
 mod saying;
 mod top;
 

@@ -15,7 +15,7 @@ use std::alloc::Global;
 pub(crate) fn usage_line() -> &'static [u8]
     ensures { result.now ≡ usage_line }
 {
-    b"usage: ops [--match direct|serial|rounds|free|steal] [--workers N] [--lines L] [--limit N] FILE.. | ops --gen SEED SIZE | ops --net FILE.. | ops --why FILE..\n"
+    b"usage: ops [--match direct|serial|rounds|free|steal] [--workers N] [--lines L] [--limit N] [--overlap] FILE.. | ops --gen SEED SIZE | ops --net FILE.. | ops --why FILE..\n"
 }
 
 /// The line that answers a file that can't be read.

@@ -42,11 +42,11 @@ no_defaults (a ∷ rs) rows e =
 
 -- and the flags have one
 abbrev defaulted : List Row → List Row
-defaulted rows = with_default (with_default (with_default rows (built_flag (codes "gen"))) (built_flag (codes "net"))) (built_flag (codes "why"))
+defaulted rows = with_default (with_default (with_default (with_default rows (built_flag (codes "gen"))) (built_flag (codes "net"))) (built_flag (codes "why"))) (built_flag (codes "overlap"))
 
 finished_rows : (h : Held) → finished top.rules h ≡ defaulted (settled top.rules h).rows
 finished_rows h =
-    ap (λ rows. fold with_default rows (built_flag (codes "gen") ∷ built_flag (codes "net") ∷ built_flag (codes "why") ∷ built_files ∷ [])) (no_defaults options (settled top.rules h).rows refl)
+    ap (λ rows. fold with_default rows (built_flag (codes "gen") ∷ built_flag (codes "net") ∷ built_flag (codes "why") ∷ built_flag (codes "overlap") ∷ built_files ∷ [])) (no_defaults options (settled top.rules h).rows refl)
     ∙ no_defaults (built_files ∷ []) (defaulted (settled top.rules h).rows) refl
 
 -- ---- the rows after the default of one flag
@@ -87,11 +87,12 @@ pub record Ends (pieces : List Piece) (rows : List Row) : Type 0 where
   pub row : (id : Text) → is_flag id ≡ false → row_of id rows ≡ row_with id (said id pieces)
   pub flag : (name : Text) → is_flag name ≡ true → one_of name rows ≡ Some (unwrap_or (value_of name pieces) (codes "false"))
 
-none_of : (s t u : Bool) → (s || (t || (u || false))) ≡ false → (s ≡ false) × (t ≡ false) × (u ≡ false)
-none_of true t u e = absurd (true≢false e)
-none_of false true u e = absurd (true≢false e)
-none_of false false true e = absurd (true≢false e)
-none_of false false false e = (refl, refl, refl)
+none_of : (s t u v : Bool) → (s || (t || (u || (v || false)))) ≡ false → (s ≡ false) × (t ≡ false) × (u ≡ false) × (v ≡ false)
+none_of true t u v e = absurd (true≢false e)
+none_of false true u v e = absurd (true≢false e)
+none_of false false true v e = absurd (true≢false e)
+none_of false false false true e = absurd (true≢false e)
+none_of false false false false e = (refl, refl, refl, refl)
 
 ends : (pieces : List Piece) (rows : List Row) → Shows pieces rows → Ends pieces (defaulted rows)
 ends pieces rows shows =
@@ -100,13 +101,16 @@ ends pieces rows shows =
     let second = defaults (codes "net") (values_of (codes "net") pieces) next (first.other (codes "net") refl ∙ shows.row (codes "net")) in
     let further = with_default next (built_flag (codes "net")) in
     let third = defaults (codes "why") (values_of (codes "why") pieces) further (second.other (codes "why") refl ∙ (first.other (codes "why") refl ∙ shows.row (codes "why"))) in
+    let last = with_default further (built_flag (codes "why")) in
+    let fourth = defaults (codes "overlap") (values_of (codes "overlap") pieces) last (third.other (codes "overlap") refl ∙ (second.other (codes "overlap") refl ∙ (first.other (codes "overlap") refl ∙ shows.row (codes "overlap")))) in
     record {
       row = λ id none.
-          let apart = none_of (bytes_eq (codes "gen") id) (bytes_eq (codes "net") id) (bytes_eq (codes "why") id) none in
-          third.other id apart.2 ∙ (second.other id apart.1 ∙ (first.other id apart.0 ∙ shows.row id));
+          let apart = none_of (bytes_eq (codes "gen") id) (bytes_eq (codes "net") id) (bytes_eq (codes "why") id) (bytes_eq (codes "overlap") id) none in
+          fourth.other id apart.3 ∙ (third.other id apart.2 ∙ (second.other id apart.1 ∙ (first.other id apart.0 ∙ shows.row id)));
       flag = each_flag (λ name. one_of name (defaulted rows) ≡ Some (unwrap_or (value_of name pieces) (codes "false")))
-          (ap (option_and_then row_text) (third.other (codes "gen") refl ∙ second.other (codes "gen") refl) ∙ first.value)
-          (ap (option_and_then row_text) (third.other (codes "net") refl) ∙ second.value) third.value;
+          (ap (option_and_then row_text) (fourth.other (codes "gen") refl ∙ (third.other (codes "gen") refl ∙ second.other (codes "gen") refl)) ∙ first.value)
+          (ap (option_and_then row_text) (fourth.other (codes "net") refl ∙ third.other (codes "net") refl) ∙ second.value)
+          (ap (option_and_then row_text) (fourth.other (codes "why") refl) ∙ third.value) fourth.value;
     }
 
 pub finished_ends : (pieces : List Piece) (h : Held) → Shows pieces (settled top.rules h).rows → Ends pieces (finished top.rules h)

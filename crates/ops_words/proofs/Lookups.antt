@@ -42,7 +42,7 @@ abbrev pub options : List Rule
 options = built_option (codes "match") ∷ built_option (codes "workers") ∷ built_option (codes "lines") ∷ built_option (codes "limit") ∷ []
 
 abbrev pub arguments : List Rule
-arguments = options ++ built_flag (codes "gen") ∷ built_flag (codes "net") ∷ built_flag (codes "why") ∷ built_files ∷ []
+arguments = options ++ built_flag (codes "gen") ∷ built_flag (codes "net") ∷ built_flag (codes "why") ∷ built_flag (codes "overlap") ∷ built_files ∷ []
 
 abbrev pub top : Shape
 top = (built app).top
@@ -56,30 +56,31 @@ pub id_option : (name : Text) → is_option name ≡ true → arg_by_id top.rule
 id_option = each_option (λ name. arg_by_id top.rules name ≡ Some (built_option name)) refl refl refl refl
 
 pub long_flag : (name : Text) → is_flag name ≡ true → arg_by_long top.rules name ≡ Some (built_flag name)
-long_flag = each_flag (λ name. arg_by_long top.rules name ≡ Some (built_flag name)) refl refl refl
+long_flag = each_flag (λ name. arg_by_long top.rules name ≡ Some (built_flag name)) refl refl refl refl
 
 pub not_flag : (name : Text) → is_option name ≡ true → is_flag name ≡ false
 not_flag = each_option (λ name. is_flag name ≡ false) refl refl refl refl
 
 pub flag_not_files : (name : Text) → is_flag name ≡ true → bytes_eq (codes "file") name ≡ false
-flag_not_files = each_flag (λ name. bytes_eq (codes "file") name ≡ false) refl refl refl
+flag_not_files = each_flag (λ name. bytes_eq (codes "file") name ≡ false) refl refl refl refl
 
 pub not_files : (name : Text) → is_option name ≡ true → bytes_eq (codes "file") name ≡ false
 not_files = each_option (λ name. bytes_eq (codes "file") name ≡ false) refl refl refl refl
 
 pub no_argument : (name : Text) → is_option name ≡ false → is_flag name ≡ false → arg_by_long top.rules name ≡ None
 no_argument name = go (bytes_eq (codes "match") name) (bytes_eq (codes "workers") name) (bytes_eq (codes "lines") name) (bytes_eq (codes "limit") name)
-    (bytes_eq (codes "gen") name) (bytes_eq (codes "net") name) (bytes_eq (codes "why") name)
+    (bytes_eq (codes "gen") name) (bytes_eq (codes "net") name) (bytes_eq (codes "why") name) (bytes_eq (codes "overlap") name)
   where
-    go : (s t u v w x y : Bool) → (s || (t || (u || (v || false)))) ≡ false → (w || (x || (y || false))) ≡ false
+    go : (s t u v w x y z : Bool) → (s || (t || (u || (v || false)))) ≡ false → (w || (x || (y || (z || false)))) ≡ false
         → cond (true && (s || false)) (Some (built_option (codes "match"))) (cond (true && (t || false)) (Some (built_option (codes "workers")))
         (cond (true && (u || false)) (Some (built_option (codes "lines"))) (cond (true && (v || false)) (Some (built_option (codes "limit")))
-        (cond (true && (w || false)) (Some (built_flag (codes "gen"))) (cond (true && (x || false)) (Some (built_flag (codes "net"))) (cond (true && (y || false)) (Some (built_flag (codes "why"))) None)))))) ≡ None
-    go true t u v w x y e f = absurd (true≢false e)
-    go false true u v w x y e f = absurd (true≢false e)
-    go false false true v w x y e f = absurd (true≢false e)
-    go false false false true w x y e f = absurd (true≢false e)
-    go false false false false true x y e f = absurd (true≢false f)
-    go false false false false false true y e f = absurd (true≢false f)
-    go false false false false false false true e f = absurd (true≢false f)
-    go false false false false false false false e f = refl
+        (cond (true && (w || false)) (Some (built_flag (codes "gen"))) (cond (true && (x || false)) (Some (built_flag (codes "net"))) (cond (true && (y || false)) (Some (built_flag (codes "why"))) (cond (true && (z || false)) (Some (built_flag (codes "overlap"))) None))))))) ≡ None
+    go true t u v w x y z e f = absurd (true≢false e)
+    go false true u v w x y z e f = absurd (true≢false e)
+    go false false true v w x y z e f = absurd (true≢false e)
+    go false false false true w x y z e f = absurd (true≢false e)
+    go false false false false true x y z e f = absurd (true≢false f)
+    go false false false false false true y z e f = absurd (true≢false f)
+    go false false false false false false true z e f = absurd (true≢false f)
+    go false false false false false false false true e f = absurd (true≢false f)
+    go false false false false false false false false e f = refl

@@ -45,7 +45,8 @@ all_flags p e =
     let four = and_parts (p (codes "limit")) _ three.1 in
     let five = and_parts (p (codes "gen")) _ four.1 in
     let six = and_parts (p (codes "net")) _ five.1 in
-    each_flag (λ name. p name ≡ true) five.0 six.0 (and_parts (p (codes "why")) _ six.1).0
+    let seven = and_parts (p (codes "why")) _ six.1 in
+    each_flag (λ name. p name ≡ true) five.0 six.0 seven.0 (and_parts (p (codes "overlap")) _ seven.1).0
 
 abbrev at_most_one : List Piece → Text → Bool
 at_most_one pieces name = nat_le (length (values_of name pieces)) 1

@@ -1,4 +1,4 @@
--- The command line as `clap` gets it: four options that take a value, three flags, and names.
+-- The command line as `clap` gets it: four options that take a value, four flags, and names.
 use Rattle.std.specs.Prelude.{codes, true, Some}
 use Rattle.clap.specs.Walk.{Rule, Text}
 use Rattle.clap.specs.Simple.{App, new_app, new_rule, on_top, with_rule}
@@ -20,5 +20,5 @@ abbrev pub bare_app : App
 bare_app = on_top (λ s. record s { no_binary_name = true; disable_help_flag = true }) (new_app (codes "ops"))
 
 abbrev pub app : App
-app = with_rule (with_rule (with_rule (with_rule (with_rule (with_rule (with_rule (with_rule bare_app (option_rule (codes "match"))) (option_rule (codes "workers")))
-    (option_rule (codes "lines"))) (option_rule (codes "limit"))) (flag_rule (codes "gen"))) (flag_rule (codes "net"))) (flag_rule (codes "why"))) files_rule
+app = with_rule (with_rule (with_rule (with_rule (with_rule (with_rule (with_rule (with_rule (with_rule bare_app (option_rule (codes "match"))) (option_rule (codes "workers")))
+    (option_rule (codes "lines"))) (option_rule (codes "limit"))) (flag_rule (codes "gen"))) (flag_rule (codes "net"))) (flag_rule (codes "why"))) (flag_rule (codes "overlap"))) files_rule

@@ -49,6 +49,7 @@ fn command_line<'a>(alloc: Global) -> Result<Command<'a>, AllocError>
         .arg(flag_named(alloc, "gen"))?
         .arg(flag_named(alloc, "net"))?
         .arg(flag_named(alloc, "why"))?
+        .arg(flag_named(alloc, "overlap"))?
         .arg(files(alloc))
 }
 

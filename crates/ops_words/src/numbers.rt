@@ -66,10 +66,10 @@ fn engine_from(word: Option<&str>) -> Option<Engine>
     }
 }
 
-/// What the options say, where their values are fit.
-pub fn options_of(matches: &ArgMatches<'_>) -> Option<Options>
+/// What the options say, if their values fit, and whether `--overlap` is given.
+pub fn options_of(matches: &ArgMatches<'_>, overlap: bool) -> Option<Options>
     ensures { result ≡ options_from (first_value (found_of matches.now) (codes "match")) (first_value (found_of matches.now) (codes "workers"))
-        (first_value (found_of matches.now) (codes "lines")) (first_value (found_of matches.now) (codes "limit")) }
+        (first_value (found_of matches.now) (codes "lines")) (first_value (found_of matches.now) (codes "limit")) overlap }
 {
     let engine = engine_from(matches.get_str("match"))?;
     let workers = number_from(
@@ -88,5 +88,6 @@ pub fn options_of(matches: &ArgMatches<'_>) -> Option<Options>
         workers: workers as usize,
         lines: lines as usize,
         limit,
+        overlap,
     })
 }

@@ -59,7 +59,7 @@ pub fn read_words(alloc: Global, words: &[String]) -> Result<Job, WordsFault>
     ensures usage { result ≡ Err WordsFault.Usage → job_of (word_bytes words.now) ≡ None }
 {
     let matches = find_words(alloc, words)?;
-    let Some(options) = options_of(&matches) else {
+    let Some(options) = options_of(&matches, matches.get_flag("overlap")) else {
         return Err(WordsFault::Usage);
     };
     let names = files_of(alloc, &matches)?;

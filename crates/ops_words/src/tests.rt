@@ -22,6 +22,7 @@ const USUAL: Options = Options {
     workers: 4,
     lines: 1_024,
     limit: 1_000_000,
+    overlap: false,
 };
 
 const SERIAL: Options = Options {
@@ -30,7 +31,7 @@ const SERIAL: Options = Options {
 };
 
 /// Words that fit, with the options that they set, and with their files.
-const FIT: [(&[&str], Options, &[&str]); 14] = [
+const FIT: [(&[&str], Options, &[&str]); 15] = [
     (&["f"], USUAL, &["f"]),
     (
         &["--limit=3", "a", "b"],
@@ -99,13 +100,22 @@ const FIT: [(&[&str], Options, &[&str]); 14] = [
         },
         &["f"],
     ),
+    (
+        &["--overlap", "f"],
+        Options {
+            overlap: true,
+            ..USUAL
+        },
+        &["f"],
+    ),
 ];
 
 /// Words that ask for the network, with their files.
-const NETWORKS: [(&[&str], &[&str]); 3] = [
+const NETWORKS: [(&[&str], &[&str]); 4] = [
     (&["--net", "f"], &["f"]),
     (&["f", "--net", "--limit=3", "g"], &["f", "g"]),
     (&["--net", "--", "--net"], &["--net"]),
+    (&["--net", "--overlap", "f"], &["f"]),
 ];
 
 /// Words that ask for explanations, with the options that they set, and with their files.
@@ -141,7 +151,7 @@ const WORKLOADS: [(&[&str], Options, u64, u64); 4] = [
 ];
 
 /// Words that do not fit.
-const UNFIT: [&[&str]; 46] = [
+const UNFIT: [&[&str]; 48] = [
     &[],
     &["--"],
     &["--limit=3"],
@@ -188,6 +198,8 @@ const UNFIT: [&[&str]; 46] = [
     &["--why", "--why", "f"],
     &["--why", "--net", "f"],
     &["--gen", "--why", "7", "1"],
+    &["--overlap", "--overlap", "f"],
+    &["--overlap=1", "f"],
 ];
 
 #[test]

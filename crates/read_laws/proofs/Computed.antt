@@ -47,7 +47,7 @@ commands = (refl, refl, refl, refl, refl, refl, refl, refl, refl, refl, refl, re
 
 pub options : OptionsMean
 unfolding pieces_from
-options = (refl, refl, refl, refl, refl, refl, refl, refl, refl, refl, refl, refl, refl)
+options = (refl, refl, refl, refl, refl, refl, refl, refl, refl, refl, refl, refl, refl, refl, refl, refl, refl)
 
 pub groups : GroupsCount
 unfolding reads token_at is_operator is_whole is_fraction is_variable decimal step ends goes

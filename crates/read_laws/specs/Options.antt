@@ -1,5 +1,5 @@
 -- The meaning of the words of the command line.
-use Rattle.std.specs.Prelude.{◌≡◌, List, [], ◌∷◌, ◌++◌, codes, Some}
+use Rattle.std.specs.Prelude.{◌≡◌, List, [], ◌∷◌, ◌++◌, codes, true, false, Some, None}
 use Rattle.ops_jobs.specs.declared.jobs.Engine.TheVariants.{Direct, Serial, Rounds, Free, Steal}
 use Rattle.ops_jobs.specs.declared.jobs.Job.TheVariants.{Run, Net, Gen, Why}
 use Rattle.ops_jobs.specs.declared.jobs.Options.{Options}
@@ -7,7 +7,7 @@ use Rattle.ops_jobs.specs.CommandLine.{Word, job_of}
 
 -- the options if none is given
 abbrev pub usual : Options
-usual = record { engine = Free; workers = 4; lines = 1024; limit = 1000000 }
+usual = record { engine = Free; workers = 4; lines = 1024; limit = 1000000; overlap = false }
 
 abbrev pub file : Word
 file = codes "f.ops"
@@ -27,7 +27,11 @@ OptionsMean =
     × RunsWith (codes "--workers" ∷ codes "3" ∷ []) (record usual { workers = 3 })
     × RunsWith (codes "--lines" ∷ codes "5" ∷ []) (record usual { lines = 5 })
     × RunsWith (codes "--limit" ∷ codes "9" ∷ []) (record usual { limit = 9 })
+    × RunsWith (codes "--overlap" ∷ []) (record usual { overlap = true })
+    × (job_of (codes "--overlap" ∷ codes "--overlap" ∷ file ∷ []) ≡ None)
+    × (job_of (codes "--overlap=1" ∷ file ∷ []) ≡ None)
     × (job_of (codes "--net" ∷ file ∷ []) ≡ Some (Net (file ∷ [])))
     × (job_of (codes "--why" ∷ file ∷ []) ≡ Some (Why usual (file ∷ [])))
     × (job_of (codes "--why" ∷ codes "--match" ∷ codes "steal" ∷ file ∷ []) ≡ Some (Why (record usual { engine = Steal }) (file ∷ [])))
     × (job_of (codes "--gen" ∷ codes "8" ∷ codes "6" ∷ []) ≡ Some (Gen usual 8 6))
+    × (job_of (codes "--gen" ∷ codes "8" ∷ codes "6" ∷ codes "--overlap" ∷ []) ≡ Some (Gen (record usual { overlap = true }) 8 6))

@@ -12,6 +12,8 @@ mod limits;
 #[cfg(test)]
 mod live_rows;
 #[cfg(test)]
+mod overlap_rows;
+#[cfg(test)]
 mod partial_rows;
 #[cfg(test)]
 mod rows;

@@ -7,7 +7,7 @@ use ops_top::{code, still_run};
 use std::test::Fail;
 
 const USAGE: &[u8] =
-    b"usage: ops [--match direct|serial|rounds|free|steal] [--workers N] [--lines L] [--limit N] FILE.. | ops --gen SEED SIZE | ops --net FILE.. | ops --why FILE..\n";
+    b"usage: ops [--match direct|serial|rounds|free|steal] [--workers N] [--lines L] [--limit N] [--overlap] FILE.. | ops --gen SEED SIZE | ops --net FILE.. | ops --why FILE..\n";
 
 /// Words that don't fit.
 const UNFIT: [&[&str]; 16] = [

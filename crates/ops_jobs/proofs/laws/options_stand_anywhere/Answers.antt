@@ -10,5 +10,5 @@ returns c = λ words others ps qs are also same.
     cond (list_all (λ name. nat_le (length (same.values name i)) 1) (option_names ++ flag_names) && nat_le 1 (length (same.files i)))
     (option_and_then (λ options. job_by (nat_le 1 (length (same.values (codes "gen") i))) (nat_le 1 (length (same.values (codes "net") i))) (nat_le 1 (length (same.values (codes "why") i))) options (same.files i))
     (options_from (slice_get (same.values (codes "match") i) 0) (slice_get (same.values (codes "workers") i) 0)
-    (slice_get (same.values (codes "lines") i) 0) (slice_get (same.values (codes "limit") i) 0))) None in
+    (slice_get (same.values (codes "lines") i) 0) (slice_get (same.values (codes "limit") i) 0) (nat_le 1 (length (same.values (codes "overlap") i))))) None in
     rw (are, also) jobs

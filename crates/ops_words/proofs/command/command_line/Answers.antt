@@ -18,4 +18,5 @@ returns c =
     let fifth = with_argument c.in_ok-arg-4.field-0 c.in_ok-arg-5.field-0 c.flag_named.result _ (flag_rule (codes "gen")) c.in_ok-arg-5.ensures c.flag_named.ensures.local fourth c.flag_named.ensures.rule in
     let sixth = with_argument c.in_ok-arg-5.field-0 c.in_ok-arg-6.field-0 c.flag_named-2.result _ (flag_rule (codes "net")) c.in_ok-arg-6.ensures c.flag_named-2.ensures.local fifth c.flag_named-2.ensures.rule in
     let seventh = with_argument c.in_ok-arg-6.field-0 c.in_ok-arg-7.field-0 c.flag_named-3.result _ (flag_rule (codes "why")) c.in_ok-arg-7.ensures c.flag_named-3.ensures.local sixth c.flag_named-3.ensures.rule in
-    IfOk-weaker c.arg-8.result _ _ (λ r adds. with_argument c.in_ok-arg-7.field-0 r c.files.result _ files_rule adds c.files.ensures.local seventh c.files.ensures.rule) c.arg-8.ensures
+    let eighth = with_argument c.in_ok-arg-7.field-0 c.in_ok-arg-8.field-0 c.flag_named-4.result _ (flag_rule (codes "overlap")) c.in_ok-arg-8.ensures c.flag_named-4.ensures.local seventh c.flag_named-4.ensures.rule in
+    IfOk-weaker c.arg-9.result _ _ (λ r adds. with_argument c.in_ok-arg-8.field-0 r c.files.result _ files_rule adds c.files.ensures.local eighth c.files.ensures.rule) c.arg-9.ensures
