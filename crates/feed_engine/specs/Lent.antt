@@ -12,9 +12,9 @@ use Rattle.ops_io.specs.Output.{OutState}
 use Rattle.ops_io.specs.Ports.{port}
 use Rattle.ops_meaning.specs.Acting.{acted}
 use Rattle.ops_meaning.specs.Effects.{PerformsOn, CountsReads}
-use Rattle.ops_meaning.specs.Kept.{KeepsNames, WellKept}
+use Rattle.ops_meaning.specs.Kept.{AreFilledFrom, KeepsNames, WellKept}
 use Rattle.act_phase.specs.Asking.{right_side_asks}
-use Rattle.act_phase.specs.Held.{HoldsProgram, HoldsElements, HoldsMade}
+use Rattle.act_phase.specs.Held.{HoldsProgram, HoldsElements, HoldsMade, HoldsRules}
 use Rattle.act_phase.specs.Outcomes.{acted_of, failure_of, is_unread, setting_of}
 use Rattle.act_phase.specs.declared.outcome.ActFault.{ActFault}
 use Rattle.act_phase.specs.declared.outcome.Acted.{Acted}
@@ -47,7 +47,10 @@ pub record ActsBy {A M I K : Type 0} (stored : M → Stored) (found : M → List
       → KeepsNames names.now names'.now
   pub held : (alloc : A) (program : Bor Program) (names : MutBor Spellings) (matcher : M) (inst : Bor Inst) (watch : ℕ) (input : MutBor InputState) (source : MutBor I) (out : MutBor OutState) (sink : MutBor K) (r : Result (Acted × Settled M) ActFault) (names' : MutBor Spellings) (input' : MutBor InputState) (source' : MutBor I) (out' : MutBor OutState) (sink' : MutBor K)
       → post alloc program names matcher inst watch input source out sink r names' input' source' out' sink'
-      → HoldsProgram names.now program.now → HoldsElements names.now (stored matcher).elements → HoldsProgram names'.now program.now × HoldsElements names'.now (stored matcher).elements × IfOk r (λ r. HoldsMade names'.now r.0.changes)
+      → HoldsProgram names.now program.now → HoldsElements names.now (stored matcher).elements → HoldsProgram names'.now program.now × HoldsElements names'.now (stored matcher).elements × IfOk r (λ r. HoldsMade names'.now r.0.changes × HoldsRules names'.now r.0.built)
+  pub built : (alloc : A) (program : Bor Program) (names : MutBor Spellings) (matcher : M) (inst : Bor Inst) (watch : ℕ) (input : MutBor InputState) (source : MutBor I) (out : MutBor OutState) (sink : MutBor K) (r : Result (Acted × Settled M) ActFault) (names' : MutBor Spellings) (input' : MutBor InputState) (source' : MutBor I) (out' : MutBor OutState) (sink' : MutBor K)
+      → post alloc program names matcher inst watch input source out sink r names' input' source' out' sink'
+      → IfOk r (λ r. AreFilledFrom program.now.templates r.0.built)
   pub lawful : (alloc : A) (program : Bor Program) (names : MutBor Spellings) (matcher : M) (inst : Bor Inst) (watch : ℕ) (input : MutBor InputState) (source : MutBor I) (out : MutBor OutState) (sink : MutBor K) (r : Result (Acted × Settled M) ActFault) (names' : MutBor Spellings) (input' : MutBor InputState) (source' : MutBor I) (out' : MutBor OutState) (sink' : MutBor K)
       → post alloc program names matcher inst watch input source out sink r names' input' source' out' sink'
       → IfOk r (λ r. Lawful (stored matcher).elements (stored matcher).last r.0.changes)

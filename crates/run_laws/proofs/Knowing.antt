@@ -292,7 +292,7 @@ action_knows s column k (action.Bind v t) d p h =
 action_knows s column k (action.Cbind cell) d p h =
     cbound_knows s.classes k d k.made refl (and_parts (is_some k.made) (cell == length k.cells) h).0 p
 action_knows s column k action.Halt d p h = record { variables = p.variables; cells = p.cells; exist = p.exist; made = p.made }
-action_knows s column k (action.Build template holes) d p h = p
+action_knows s column k (action.Build template holes) d p h = record { variables = p.variables; cells = p.cells; exist = p.exist; made = p.made }
 
 -- So valid actions find all that they name, one after another.
 pub actions_find : (s : Setting) (column : ℕ) (k : Known) (actions : List Action) (d : ActState) → Knows s.classes k d → actions_are_valid s.classes k actions ≡ true → AllFind s column actions d

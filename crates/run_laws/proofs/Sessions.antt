@@ -1,5 +1,5 @@
 -- In each firing of a session of a valid program the elements are whole, and the right side finds all that it names.
-use Rattle.std.proofs.Common.{slice_get, ◌≡◌, ℕ, zero, suc, ◌+◌, ◌-◌, List, [], ◌∷◌, ◌++◌, map, fold, length, Bool, true, false, cond, ◌&&◌, Option, Some, None, IfOk, refl, ap, sym, subst, inl, inr, nat_lt, unwrap_or, option_map, arith}
+use Rattle.std.proofs.Common.{slice_get, ◌≡◌, ℕ, zero, suc, ◌+◌, ◌-◌, List, [], ◌∷◌, ◌++◌, map, fold, length, Bool, true, false, cond, not, ◌&&◌, Option, Some, None, IfOk, refl, ap, sym, ◌∙◌, subst, inl, inr, nat_lt, unwrap_or, option_map, arith}
 use Rattle.std.specs.Prelude.{Contains, MatchOption}
 use Rattle.std.specs.Bool.{MatchBool}
 use Rattle.std.specs.List.{list_any, list_all}
@@ -20,10 +20,11 @@ use Rattle.ops_base.specs.declared.values.Sym.{Sym}
 use Rattle.ops_base.specs.ConflictSet.{conflict_set}
 use Rattle.ops_base.specs.Names.{Spellings}
 use Rattle.ops_base.specs.Refraction.{unfired, IsDominant}
-use Rattle.ops_base.specs.Valid.{class_of, no_class, class_is_valid, rule_is_valid, command_is_valid, fits, fixed_is_valid, fixed_are_valid, actions_are_valid, known_of}
+use Rattle.ops_base.specs.Valid.{class_of, no_class, class_is_valid, is_build, rule_is_valid, template_is_valid, command_is_valid, fits, fixed_is_valid, fixed_are_valid, actions_are_valid, known_of}
 use Rattle.ops_base.specs.WorkingMemory.{tags_of, without_tag}
 use Rattle.ops_base.proofs.ConflictSetLaws.{conflict_set-is}
 use Rattle.ops_base.proofs.DominanceLaws.{dominant_is}
+use Rattle.ops_base.proofs.FilledValid.{rule_valid}
 use Rattle.ops_base.proofs.Members.{IsMember, all_from_members}
 use Rattle.ops_base.proofs.RefractionLaws.{member-unfired}
 use Rattle.ops_base.proofs.WalkFinds.{meets-matches_of}
@@ -32,9 +33,10 @@ use Rattle.ops_io.specs.Output.{column_after}
 use Rattle.ops_meaning.specs.Acting.{Setting, Acted, acted, actions_of, actions_done, conditions_of, elements_of, left_by, has_tag}
 use Rattle.ops_meaning.specs.Acting as acting
 use Rattle.ops_meaning.specs.Effects.{Effect, writes, and_then}
-use Rattle.ops_meaning.specs.Kept.{WellKept, IsLawfulOver}
+use Rattle.ops_meaning.specs.Kept.{WellKept, IsLawfulOver, IsFilledFrom, AreFilledFrom}
+use Rattle.ops_meaning.proofs.Doings.{ok_goes, EndsActions, KeptActed, acted_kept}
 use Rattle.ops_meaning.specs.Layout.{rule_name}
-use Rattle.ops_meaning.specs.Running.{Course, Turned, Session, LastFiring, begun, turn, line_of_pause, last_of, one_less, given_by, ended_in, turned_of, element_made, removals, strategy_given, level_given, breaks_given, is_exit, in_force, rule_named, taken_out, taken_out_named, added, firing, run_on, next_to_fire, command_done, commands_done, session_of, Earlier, back_given, earlier, fired_on, is_back, restored, states_kept}
+use Rattle.ops_meaning.specs.Running.{Course, Turned, Session, LastFiring, begun, turn, line_of_pause, last_of, one_less, given_by, ended_in, turned_of, element_made, removals, strategy_given, level_given, breaks_given, is_exit, in_force, rule_named, taken_out, taken_out_named, added, all_added, turned_on, firing, run_on, next_to_fire, command_done, commands_done, session_of, Earlier, back_given, earlier, fired_on, is_back, restored, states_kept}
 use Rattle.ops_meaning.proofs.Trails.{AreKept, back_leaves, firing_kept_too, is_kept, none_kept, none_yet, those_before}
 use Rattle.ops_meaning.proofs.Lawful.{added_kept, kept_after, removals_lawful, removals_last, clearing_lawful, clearing_last}
 use Rattle.ops_meaning.proofs.RisingTags.{acts_lawfully}
@@ -126,14 +128,27 @@ acted_whole s column i m sound good in_set =
     (subst P (sym b.actions) (actions_whole s sound.classes column 1 (known_of b.rule.conditions) b.rule.actions start b.knows w b.valid))
     (λ d q. q.made)
 
-firing_good : (s : Setting) (column : ℕ) (i : Inst) (m : Course) → IsSound s → IsGood s.classes m → Contains (conflict_set s.rules m.wm) i → IfOk (firing s column i m).outcome (λ t. IsGood s.classes t.course)
+-- what a firing leaves whose productions come from these templates
+record GoodTurned (classes : List Class) (templates : List Rule) (t : Turned) : Type 0 where
+  course : IsGood classes t.course
+  built : AreFilledFrom templates t.built
+
+acted_filled : (s : Setting) (column : ℕ) (i : Inst) (m : Course) → IfOk (acted s column i (given_by m)).outcome (λ a. AreFilledFrom s.templates a.built)
+acted_filled s column i m =
+    ok_goes (KeptActed s.templates m.wm m.last m.names m.coming.fails) (λ (a : Acted). AreFilledFrom s.templates a.built) (EndsActions m.coming.fails) (acted s column i (given_by m)).outcome (acted_kept s column i (given_by m)) (λ a p. p.built)
+
+firing_good : (s : Setting) (column : ℕ) (i : Inst) (m : Course) → IsSound s → IsGood s.classes m → Contains (conflict_set s.rules m.wm) i → IfOk (firing s column i m).outcome (GoodTurned s.classes s.templates)
 firing_good s column i m sound good in_set =
     let start = column_after_line s column i m in
     let a = acted s start i (given_by m) in
-    let P : Acted → Type 0 = λ a. IsLawfulOver m.wm m.last a × MakesWhole s.classes a.changes in
-    ok_as P (λ (t : Turned). IsGood s.classes t.course) (turned_of s.rules i m) (ended_in (m.firings + 1) i.rule (rule_name s.rules i.rule)) a.outcome
-    (ok_both (IsLawfulOver m.wm m.last) (λ (a : Acted). MakesWhole s.classes a.changes) a.outcome (acts_lawfully s start i (given_by m) good.kept) (acted_whole s start i m sound good in_set))
-    (λ a q. let lawful = q.0 in record { kept = lawful.kept; whole = done_whole s.classes m.wm a.changes good.whole q.1 })
+    let L : Acted → Type 0 = IsLawfulOver m.wm m.last in
+    let M : Acted → Type 0 = λ a. MakesWhole s.classes a.changes in
+    let F : Acted → Type 0 = λ a. AreFilledFrom s.templates a.built in
+    let P : Acted → Type 0 = λ a. L a × M a in
+    let Q : Acted → Type 0 = λ a. P a × F a in
+    ok_as Q (GoodTurned s.classes s.templates) (turned_of s.rules i m) (ended_in (m.firings + 1) i.rule (rule_name s.rules i.rule)) a.outcome
+    (ok_both P F a.outcome (ok_both L M a.outcome (acts_lawfully s start i (given_by m) good.kept) (acted_whole s start i m sound good in_set)) (acted_filled s start i m))
+    (λ a q. let lawful = q.0.0 in record { course = record { kept = lawful.kept; whole = done_whole s.classes m.wm a.changes good.whole q.0.1 }; built = q.1 })
 
 -- what holds of what is next where working memory is good
 abbrev HoldsNext : (Setting → ℕ → Inst → Course → Type 0) → Type 0
@@ -146,47 +161,89 @@ record GoodEarlier (classes : List Class) (e : Earlier) : Type 0 where
   kept : WellKept e.wm e.last
   whole : EachWhole classes e.wm
 
--- of a session, and of each state on its trail
-abbrev GoodRun : List Class → Session → Type 0
-GoodRun classes k = IsGood classes k.course × AreKept (GoodEarlier classes) k
-
-fired_good : (classes : List Class) (m : Course) (k : Session) → GoodRun classes k → IsGood classes m → GoodRun classes (fired_on m k)
-fired_good classes m k g h =
-    let was : GoodEarlier classes (earlier k.course) = record { kept = g.0.kept; whole = g.0.whole } in
-    (h, firing_kept_too (GoodEarlier classes) m k was g.1)
-
 turn_good : (s : Setting) (column : ℕ) (line : Option (List ℕ)) (R : Session → Type 0) (k : Session) (next : Option Inst) (go_on : Inst → Effect Ending Session) (Q : Inst → Type 0) → R k
     → ((i : Inst) → next ≡ Some i → Q i × IfOk (go_on i).outcome R) → IfGoesOn line next Q × IfOk (turn column line k next go_on).outcome R
 turn_good s column (Some line) R k next go_on Q good on = (tt, good)
 turn_good s column None R k None go_on Q good on = (tt, good)
 turn_good s column None R k (Some i) go_on Q good on = on i refl
 
--- A run keeps the productions in force, which are these, and leaves the session good.
-record RunKeeps (classes : List Class) (rules : List Rule) (k : Session) : Type 0 where
-  good : GoodRun classes k
-  same : k.rules ≡ rules
+without_all : {X : Type 0} (p : X → Bool) (n : ℕ) (xs : List X) → list_all p xs ≡ true → list_all p (without n xs) ≡ true
+without_all p n [] h = refl
+without_all p zero (x ∷ xs) h = (and_parts (p x) (list_all p xs) h).1
+without_all p (suc n) (x ∷ xs) h =
+    let parts = and_parts (p x) (list_all p xs) h in and_from _ _ parts.0 (without_all p n xs parts.1)
 
-run_good : (P : Setting → ℕ → Inst → Course → Type 0) → HoldsNext P → (rules : List Rule) (left : ℕ) (s : Setting) (column : ℕ) (last : Option LastFiring) (count : Option ℕ) (k : Session) → IsSound s → RunKeeps s.classes rules k
-    → EachOfRun P left s column last count k × IfOk (run_on left s column last count k).outcome (RunKeeps s.classes rules)
-run_good P holds rules zero s column last count k sound r =
-    (tt, (turn_good s column (line_of_pause k.course.names s.rules k.breaks last count) (RunKeeps s.classes rules) k (next_to_fire s.rules k.course) _ (λ i. Unit {0}) r (λ i is. (tt, tt))).1)
-run_good P holds rules (suc left) s column last count k sound r =
-    turn_good s column (line_of_pause k.course.names s.rules k.breaks last count) (RunKeeps s.classes rules) k (next_to_fire s.rules k.course) _ _ r
+with_all : {X : Type 0} (p : X → Bool) (xs : List X) (x : X) → list_all p xs ≡ true → p x ≡ true → list_all p (xs ++ x ∷ []) ≡ true
+with_all p [] x h k = and_from _ _ k refl
+with_all p (y ∷ xs) x h k =
+    let parts = and_parts (p y) (list_all p xs) h in and_from _ _ parts.0 (with_all p xs x parts.1 k)
+
+-- what a run or a command leaves of a session: its productions in force are valid
+record StillGood (classes : List Class) (text : ℕ) (k : Session) : Type 0 where
+  course : IsGood classes k.course
+  trail : AreKept (GoodEarlier classes) k
+  rules : list_all (rule_is_valid classes text) k.rules ≡ true
+
+module _ (classes : List Class) (text : ℕ) where
+  abbrev Still : Session → Type 0
+  Still k = StillGood classes text k
+
+  taken_good : (n : ℕ) (k : Session) → Still k → Still (taken_out n k)
+  taken_good n k g = record {
+    course = record { kept = g.course.kept; whole = g.course.whole };
+    trail = none_kept (GoodEarlier classes) k;
+    rules = without_all (rule_is_valid classes text) n k.rules g.rules;
+  }
+
+  named_good : (name : Sym) (k : Session) → Still k → Still (taken_out_named name k)
+  named_good name k g = by (rule_named k.rules name)
+    where
+      by : (at : Option ℕ) → Still (unwrap_or (option_map (λ n. taken_out n k) at) k)
+      by None = g
+      by (Some n) = taken_good n k g
+
+  added_good : (r : Rule) (k : Session) → rule_is_valid classes text r ≡ true → Still k → Still (added r k)
+  added_good r k h g =
+      let left = named_good r.name k g in
+      record { course = left.course; trail = none_kept (GoodEarlier classes) (taken_out_named r.name k); rules = with_all (rule_is_valid classes text) (taken_out_named r.name k).rules r left.rules h }
+
+  -- a production is as valid as the template that gives it
+  filled_valid : (templates : List Rule) (r : Rule) → list_all (template_is_valid classes text) templates ≡ true → IsFilledFrom templates r → rule_is_valid classes text r ≡ true
+  filled_valid templates r h f =
+      ap (rule_is_valid classes text) f.filled ∙ rule_valid f.values classes text f.template
+      ∙ (and_parts (rule_is_valid classes text f.template) (not (list_any is_build f.template.actions)) (each_at (template_is_valid classes text) templates f.number f.template h f.there)).0
+
+  all_added_good : (templates built : List Rule) (k : Session) → list_all (template_is_valid classes text) templates ≡ true → AreFilledFrom templates built → Still k → Still (all_added built k)
+  all_added_good templates [] k h f g = g
+  all_added_good templates (r ∷ built) k h f g = all_added_good templates built (added r k) h f.1 (added_good r k (filled_valid templates r h f.0) g)
+
+  turned_good : (templates : List Rule) (t : Turned) (k : Session) → list_all (template_is_valid classes text) templates ≡ true → Still k → GoodTurned classes templates t → Still (turned_on t k)
+  turned_good templates t k h g q =
+      let was : GoodEarlier classes (earlier k.course) = record { kept = g.course.kept; whole = g.course.whole } in
+      all_added_good templates t.built (fired_on t.course k) h q.built (record { course = q.course; trail = firing_kept_too (GoodEarlier classes) t.course k was g.trail; rules = g.rules })
+
+run_good : (P : Setting → ℕ → Inst → Course → Type 0) → HoldsNext P → (left : ℕ) (s : Setting) (column : ℕ) (last : Option LastFiring) (count : Option ℕ) (k : Session) → list_all class_is_valid s.classes ≡ true
+    → list_all (template_is_valid s.classes (length s.text)) s.templates ≡ true → StillGood s.classes (length s.text) k → EachOfRun P left s column last count k × IfOk (run_on left s column last count k).outcome (StillGood s.classes (length s.text))
+run_good P holds zero s column last count k classes templates r =
+    (tt, (turn_good s column (line_of_pause k.course.names k.rules k.breaks last count) (StillGood s.classes (length s.text)) k (next_to_fire k.rules k.course) _ (λ i. Unit {0}) r (λ i is. (tt, tt))).1)
+run_good P holds (suc left) s column last count k classes templates r =
+    turn_good s column (line_of_pause k.course.names k.rules k.breaks last count) (StillGood s.classes (length s.text)) k (next_to_fire k.rules k.course) _ _ r
     (λ i is.
-    let good = r.good.0 in
-    let in_set = next_there s k.course i is in
-    let e = firing s column i k.course in
-    let Good : Turned → Type 0 = λ t. IsGood s.classes t.course in
-    let on : Turned → Session = λ t. fired_on t.course k in
-    let rest : Turned → Type 0 = λ t. EachOfRun P left s (column_after column e.bytes) (last_of i t) (one_less count) (on t) in
-    let one = firing_good s column i k.course sound good in_set in
-    let next_keeps : (t : Turned) → Good t → RunKeeps s.classes rules (on t) = λ t g. record { good = fired_good s.classes t.course k r.good g; same = r.same } in (
+    let at = in_force s k in
+    let sound : IsSound at = record { classes = classes; rules = r.rules } in
+    let in_set = next_there at k.course i is in
+    let e = firing at column i k.course in
+    let Good : Turned → Type 0 = GoodTurned s.classes s.templates in
+    let on : Turned → Session = λ t. turned_on t k in
+    let rest : Turned → Type 0 = λ t. EachOfRun P left s (column_after column e.bytes) (last_of k.rules i t) (one_less count) (on t) in
+    let one = firing_good at column i k.course sound r.course in_set in
+    let next_keeps : (t : Turned) → Good t → StillGood s.classes (length s.text) (on t) = λ t g. turned_good s.classes (length s.text) s.templates t k templates r g in (
       (
-        holds s column i k.course sound good in_set,
-        ok_more Good rest e.outcome one (λ t g. (run_good P holds rules left s (column_after column e.bytes) (last_of i t) (one_less count) (on t) sound (next_keeps t g)).0),
+        holds at column i k.course sound r.course in_set,
+        ok_more Good rest e.outcome one (λ t g. (run_good P holds left s (column_after column e.bytes) (last_of k.rules i t) (one_less count) (on t) classes templates (next_keeps t g)).0),
       ),
-      ok_on Good (RunKeeps s.classes rules) e.bytes e.outcome (λ t. run_on left s (column_after column e.bytes) (last_of i t) (one_less count) (on t)) one
-          (λ t g. (run_good P holds rules left s (column_after column e.bytes) (last_of i t) (one_less count) (on t) sound (next_keeps t g)).1),
+      ok_on Good (StillGood s.classes (length s.text)) e.bytes e.outcome (λ t. run_on left s (column_after column e.bytes) (last_of k.rules i t) (one_less count) (on t)) one
+          (λ t g. (run_good P holds left s (column_after column e.bytes) (last_of k.rules i t) (one_less count) (on t) classes templates (next_keeps t g)).1),
     ))
 
 -- ---- commands
@@ -219,24 +276,7 @@ made_whole s class puts m sound h =
       fields = fixed_fields_room (class_of s.classes class) puts (fits_class (class_of s.classes class) (all_at class_is_valid s.classes class no_class sound.classes front.0)) whole.1;
     }
 
-without_all : {X : Type 0} (p : X → Bool) (n : ℕ) (xs : List X) → list_all p xs ≡ true → list_all p (without n xs) ≡ true
-without_all p n [] h = refl
-without_all p zero (x ∷ xs) h = (and_parts (p x) (list_all p xs) h).1
-without_all p (suc n) (x ∷ xs) h =
-    let parts = and_parts (p x) (list_all p xs) h in and_from _ _ parts.0 (without_all p n xs parts.1)
-
-with_all : {X : Type 0} (p : X → Bool) (xs : List X) (x : X) → list_all p xs ≡ true → p x ≡ true → list_all p (xs ++ x ∷ []) ≡ true
-with_all p [] x h k = and_from _ _ k refl
-with_all p (y ∷ xs) x h k =
-    let parts = and_parts (p y) (list_all p xs) h in and_from _ _ parts.0 (with_all p xs x parts.1 k)
-
--- what a command leaves of a session whose productions in force are valid
-record StillGood (classes : List Class) (text : ℕ) (k : Session) : Type 0 where
-  course : IsGood classes k.course
-  trail : AreKept (GoodEarlier classes) k
-  rules : list_all (rule_is_valid classes text) k.rules ≡ true
-
-module _ (P : Setting → ℕ → Inst → Course → Type 0) (holds : HoldsNext P) (s : Setting) (classes_valid : list_all class_is_valid s.classes ≡ true) (limit : ℕ) where
+module _ (P : Setting → ℕ → Inst → Course → Type 0) (holds : HoldsNext P) (s : Setting) (classes_valid : list_all class_is_valid s.classes ≡ true) (templates_valid : list_all (template_is_valid s.classes (length s.text)) s.templates ≡ true) (limit : ℕ) where
   abbrev GoodSession : Session → Type 0
   GoodSession k = StillGood s.classes (length s.text) k
 
@@ -255,33 +295,9 @@ module _ (P : Setting → ℕ → Inst → Course → Type 0) (holds : HoldsNext
   breaks_good t column [] k g = g
   breaks_good t column (n ∷ ns) k g = record { course = g.course; trail = g.trail; rules = g.rules }
 
-  taken_good : (n : ℕ) (k : Session) → GoodSession k → GoodSession (taken_out n k)
-  taken_good n k g = record {
-    course = record { kept = g.course.kept; whole = g.course.whole };
-    trail = none_kept (GoodEarlier s.classes) k;
-    rules = without_all (rule_is_valid s.classes (length s.text)) n k.rules g.rules;
-  }
-
-  named_good : (name : Sym) (k : Session) → GoodSession k → GoodSession (taken_out_named name k)
-  named_good name k g = by (rule_named k.rules name)
-    where
-      by : (at : Option ℕ) → GoodSession (unwrap_or (option_map (λ n. taken_out n k) at) k)
-      by None = g
-      by (Some n) = taken_good n k g
-
-  added_good : (r : Rule) (k : Session) → rule_is_valid s.classes (length s.text) r ≡ true → GoodSession k → GoodSession (added r k)
-  added_good r k h g =
-      let left = named_good r.name k g in
-      record { course = left.course; trail = none_kept (GoodEarlier s.classes) (taken_out_named r.name k); rules = with_all (rule_is_valid s.classes (length s.text)) (taken_out_named r.name k).rules r left.rules h }
-
   excised_good : (names : List Sym) (k : Session) → GoodSession k → GoodSession (fold (λ k name. taken_out_named name k) k names)
   excised_good [] k g = g
-  excised_good (name ∷ names) k g = excised_good names (taken_out_named name k) (named_good name k g)
-
-  still_good : (k : Session) → GoodSession k → (after : Session) → RunKeeps s.classes k.rules after → GoodSession after
-  still_good k g after q =
-      let valid : List Rule → Type 0 = λ rules. list_all (rule_is_valid s.classes (length s.text)) rules ≡ true in
-      record { course = q.good.0; trail = q.good.1; rules = subst valid (sym q.same) g.rules }
+  excised_good (name ∷ names) k g = excised_good names (taken_out_named name k) (named_good s.classes (length s.text) name k g)
 
   back_good : (n : ℕ) (e : Earlier) (k : Session) → GoodSession k → slice_get (states_kept k) n ≡ Some e → GoodSession (restored n k e)
   back_good n e k g is =
@@ -322,10 +338,7 @@ module _ (P : Setting → ℕ → Inst → Course → Type 0) (holds : HoldsNext
     },
   )
   command_good column (command.Run count) k h g =
-      let at : Setting = record (in_force s k) { watch = k.watch } in
-      let sound_at : IsSound at = record { classes = classes_valid; rules = g.rules } in
-      let r = run_good P holds k.rules (limit - k.course.firings) at column None count k sound_at (record { good = (g.course, g.trail); same = refl }) in
-      (r.0, ok_more (RunKeeps s.classes k.rules) GoodSession (run_on (limit - k.course.firings) at column None count k).outcome r.1 (λ after q. still_good k g after q))
+      run_good P holds (limit - k.course.firings) (record (in_force s k) { watch = k.watch }) column None count k classes_valid templates_valid g
   command_good column (command.Wm tags) k h g = (tt, g)
   command_good column (command.Ppwm pattern) k h g = (tt, g)
   command_good column command.Cs k h g = (tt, g)
@@ -333,7 +346,7 @@ module _ (P : Setting → ℕ → Inst → Course → Type 0) (holds : HoldsNext
   command_good column (command.Strategy set) k h g = (tt, strategy_good column set k g)
   command_good column (command.Watch set) k h g = (tt, level_good column set k g)
   command_good column (command.Pbreak names) k h g = (tt, breaks_good (in_force s k) column names k g)
-  command_good column (command.Add r) k h g = (tt, added_good r k h g)
+  command_good column (command.Add r) k h g = (tt, added_good s.classes (length s.text) r k h g)
   command_good column (command.Excise names) k h g = (tt, excised_good names k g)
   command_good column (command.Back count) k h g =
       (tt, if_ok GoodSession (λ (e : Ending). Unit {0}) (back_given column count k).outcome (back_leaves GoodSession (λ e. Unit {0}) column count k g (λ n e is. back_good n e k g is)))
@@ -366,20 +379,22 @@ module _ (P : Setting → ℕ → Inst → Course → Type 0) (holds : HoldsNext
 pub record ValidParts (s : Setting) (cs : List Command) : Type 0 where
   classes : list_all class_is_valid s.classes ≡ true
   rules : list_all (rule_is_valid s.classes (length s.text)) s.rules ≡ true
+  templates : list_all (template_is_valid s.classes (length s.text)) s.templates ≡ true
   pub commands : list_all (command_is_valid s.classes (length s.text)) cs ≡ true
 
 pub valid_parts : (s : Setting) (commands : List Command) → AreValid s commands → ValidParts s commands
 valid_parts s commands h =
-    let seventh = (and_parts _ _ (and_parts _ _ (and_parts _ _ (and_parts _ _ h.1).0).0).0).0 in
+    let seventh = (and_parts _ _ (and_parts _ _ (and_parts _ _ (and_parts _ _ h).0).0).0).0 in
     let sixth = and_parts _ _ seventh in
-    let fifth = and_parts _ _ (and_parts _ _ sixth.0).0 in
-    record { classes = (and_parts _ _ fifth.0).1; rules = fifth.1; commands = sixth.1 }
+    let middle = and_parts _ _ sixth.0 in
+    let fifth = and_parts _ _ middle.0 in
+    record { classes = (and_parts _ _ fifth.0).1; rules = fifth.1; templates = middle.1; commands = sixth.1 }
 
 session_good : (P : Setting → ℕ → Inst → Course → Type 0) → HoldsNext P → (s : Setting) (limit : ℕ) (commands : List Command) (names : Spellings) (coming : Coming) → AreValid s commands
     → EachFiring P s limit commands names coming × IfOk (session_of s limit commands names coming).outcome (StillGood s.classes (length s.text))
 session_good P holds s limit commands names coming h =
     let valid = valid_parts s commands h in
-    commands_good P holds s valid.classes limit 0 commands (begun commands s.rules names coming) valid.commands
+    commands_good P holds s valid.classes valid.templates limit 0 commands (begun commands s.rules names coming) valid.commands
     (record { course = record { kept = (λ k within. absurd (omega arith), All-nil _); whole = λ e m. absurd m }; trail = none_yet (GoodEarlier s.classes) (list_any is_back commands); rules = valid.rules })
 
 pub each_firing_finds : (s : Setting) (limit : ℕ) (commands : List Command) (names : Spellings) (coming : Coming) → AreValid s commands → EachFiring FindsAll s limit commands names coming

@@ -170,7 +170,7 @@ sides_valid classes text r h =
 
 pub left_side_finds : (s : Setting) (commands : List Command) (wm : List Element) (k : ℕ) (r : Rule) → AreValid s commands → slice_get s.rules k ≡ Some r → WalkFinds s.classes wm r.conditions (empty_partial ∷ [])
 left_side_finds s commands wm k r h at =
-    let sides = sides_valid s.classes (length s.text) r (rule_valid s.classes s.rules h.0 commands (length s.text) k r h.1 at) in
+    let sides = sides_valid s.classes (length s.text) r (rule_valid s.classes s.rules s.templates commands (length s.text) k r h at) in
     walk_found s.classes wm r.conditions nothing_in_sight (empty_partial ∷ []) nothing_seen sides.0
 
 -- the classes of the positive conditions are there
@@ -206,7 +206,7 @@ pub right_side_finds : (s : Setting) (commands : List Command) (column : ℕ) (g
 right_side_finds s commands column g i h rising in_set =
     let is = (conflict_set-is s.rules g.wm rising).sound i in_set in
     let r = is.0 in
-    let sides = sides_valid s.classes (length s.text) r (rule_valid s.classes s.rules h.0 commands (length s.text) i.rule r h.1 is.1) in
+    let sides = sides_valid s.classes (length s.text) r (rule_valid s.classes s.rules s.templates commands (length s.text) i.rule r h is.1) in
     let conditions : conditions_of s.rules i.rule ≡ r.conditions = ap (λ o. unwrap_or (option_map (λ (r : Rule). r.conditions) o) []) is.1 in
     let actions : actions_of s.rules i.rule ≡ r.actions = ap (λ o. unwrap_or (option_map (λ (r : Rule). r.actions) o) []) is.1 in
     let f = meets-matches_of g.wm r.conditions i.tags is.2 in

@@ -30,7 +30,7 @@ ghost use Rattle.ops_meaning.specs.Acting.{Setting, Given, ActState, actions_of,
 ghost use Rattle.ops_meaning.specs.Effects.{told_as, writes};
 ghost use Rattle.ops_meaning.specs.Layout.{inst_text, kept_line, lines_at, unknown_line};
 ghost use Rattle.ops_meaning.specs.Partials.{left_side, partial_tags};
-ghost use Rattle.ops_meaning.specs.Running.{Course, Session, added, command_done, commands_done, element_lines, ending_of, in_force, is_back, lists, meets, removals, rule_named, session_of, standing_by, states_kept, taken_out};
+ghost use Rattle.ops_meaning.specs.Running.{Course, Session, Turned, added, command_done, commands_done, element_lines, ending_of, in_force, is_back, lists, meets, removals, rule_named, session_of, standing_by, states_kept, taken_out, turned_on};
 ghost use Rattle.run_laws.specs.Beginning.{BeginsAsMatched};
 ghost use Rattle.run_laws.specs.Computing.{OperandsAre, QuotientsAre, SumsAre};
 ghost use Rattle.run_laws.specs.Predicates.{EqualityHolds, OrderHolds, KindHolds};
@@ -46,7 +46,7 @@ ghost use Rattle.run_laws.specs.Programs.{AreValid};
 ghost use Rattle.run_laws.specs.Ranking.{HasRank, IsRanking};
 ghost use Rattle.run_laws.specs.Standing.{ranking_in, stands_in};
 ghost use Rattle.run_laws.specs.Telling.{AreTold, told_line};
-ghost use Rattle.run_laws.specs.Undoing.{FireTo, IsUndone, untrailed};
+ghost use Rattle.run_laws.specs.Undoing.{FireAlone, FireTo, IsUndone, untrailed};
 ghost use Rattle.why.specs.declared.explaining.BoundInst.{BoundInst};
 ghost use Rattle.why.specs.declared.explaining.Why.TheVariants.{Found};
 ghost use Rattle.why.specs.Bindings.{Binds};
@@ -262,16 +262,18 @@ pub fn bindings_are_told()
         → rule_lines names classes rules rule (Found found) ≡ map (told_line names classes rules wm) (insts_in found) }
 {}
 
-/// `back` undoes firings. After up to 32 consecutive firings, it restores working memory, the marks, the last tag and
-/// the names as they were before, changes nothing else, and prints nothing. A run makes such firings. If fewer are
-/// kept, it changes nothing and prints how many are kept. In a session without `back`, nothing depends on the trail.
+/// `back` undoes firings. After up to 32 consecutive firings that build no production, it restores working memory, the
+/// marks, the last tag and the names as they were before, changes nothing else, and prints nothing. A run makes
+/// consecutive firings. After a firing that builds a production, none before it is kept. If fewer are kept, `back` changes
+/// nothing and prints how many are kept. In a session without `back`, nothing depends on the trail.
 pub fn back_undoes_firings()
     ensures undone { (s t : Setting) (limit column n : ℕ) (k fired : Session)
-        → is_some k.trail ≡ true → 1 ≤ n → n ≤ 32 → FireTo s n k fired
+        → is_some k.trail ≡ true → 1 ≤ n → n ≤ 32 → FireAlone s n k fired
         → (after : Session) × (command_done t limit column (Command.Back n) fired ≡ writes [] after) × IsUndone k fired after }
     ensures runs { (s : Setting) (limit column : ℕ) (count : Option ℕ) (k : Session)
         → IfOk (command_done s limit column (Command.Run count) k).outcome
         (λ fired. (n : ℕ) × FireTo (record s { watch = k.watch }) n k fired × (fired.course.firings ≡ k.course.firings + n)) }
+    ensures emptied { (t : Turned) (k : Session) (r : Rule) (rest : List Rule) → t.built ≡ r ∷ rest → states_kept (turned_on t k) ≡ [] }
     ensures few { (s : Setting) (limit column n : ℕ) (k : Session)
         → length (states_kept k) < n
         → command_done s limit column (Command.Back n) k ≡ lists column (kept_line (length (states_kept k)) ∷ []) k }
