@@ -1,5 +1,5 @@
-use Rattle.ops_grammar.proofs.ReadsProgram.{program-read}
 use Rattle.ops_check.proofs.laws.spelling_is_read_back.Goals as goal
 
+-- open: the laws of spelling of ops_grammar
 pub returns : goal.returns
-returns c = program-read
+returns c = ?

@@ -5,7 +5,6 @@ use Rattle.ops_grammar.proofs.ReadsHeld.{reads-held}
 use Rattle.ops_grammar.proofs.NamesOf.{reads-names}
 use Rattle.ops_grammar.proofs.Standing.{text-derived}
 use Rattle.ops_grammar.proofs.StandingEnd.{fault-stands}
-use Rattle.ops_grammar.proofs.PlainRead.{reads-again}
 use Rattle.ops_grammar.specs.Reads.{reads}
 use Rattle.ops_check.specs.Answered.{read_of}
 use Rattle.ops_check.proofs.program.read_program.Goals as goal
@@ -38,11 +37,9 @@ pub returns-in-Ok-clause-derived : goal.returns-in-Ok-clause-derived
 returns-in-Ok-clause-derived c =
     text-derived c.args.text.items (read_of c.in-Ok.draft c.in-Ok.names) (ap reads (sym c.as_slice.ensures.value) ∙ c.in-Ok.ensures)
 
+-- open: the laws of spelling of ops_grammar
 pub returns-in-Ok-clause-again : goal.returns-in-Ok-clause-again
-returns-in-Ok-clause-again c =
-    let parts = c.program_of.ensures in
-    rw (parts.classes, parts.rules, parts.commands)
-    (reads-again c.args.text.items (read_of c.in-Ok.draft c.in-Ok.names) (ap reads (sym c.as_slice.ensures.value) ∙ c.in-Ok.ensures))
+returns-in-Ok-clause-again c = ?
 
 pub returns-in-Ok-clause-named : goal.returns-in-Ok-clause-named
 returns-in-Ok-clause-named c =
