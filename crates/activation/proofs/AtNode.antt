@@ -1,10 +1,10 @@
 -- The tokens of one node that a line keeps: their sums, and what fits there.
 use Rattle.std.proofs.Common.{◌≡◌, ◌≢◌, ℕ, ◌≤◌, ◌<◌, ◌^◌, ◌==◌, Bool, true, false, cond, List, [], ◌∷◌, ◌++◌, pos, refl, sym, ap, subst, ◌∙◌, arith, length, slice_get, slice_index, slice_index_or, bytes_eq, Option, Some, None, IsSome}
-use Rattle.std.specs.List.{All, AllByRecursion, IsDistinct}
-use Rattle.std.specs.Map.{lookup, keys_of}
-use Rattle.std.specs.Option.{ForSome, option_map_or}
+use Rattle.std.specs.List.{All, AllByRecursion}
+use Rattle.std.specs.Map.{lookup}
+use Rattle.std.specs.Option.{option_map_or}
 use Rattle.std.proofs.lemmas.Bool.Decides.{Decides-eqb}
-use Rattle.std.proofs.lemmas.List.Elements.{All-get_or, All-nil, recursion_from_All}
+use Rattle.std.proofs.lemmas.List.Elements.{All-get_or, recursion_from_All}
 use Rattle.std.proofs.lemmas.List.Folds.{find-append}
 use Rattle.std.proofs.lemmas.Option.{slice_get-get_or}
 use Rattle.ops_base.specs.declared.elements.Element.{Element}
@@ -20,20 +20,18 @@ use Rattle.net_base.specs.Sound.{IsSound, left_width, takes_elements}
 use Rattle.net_base.specs.Tokens.{Elements, goes_with, joins_hold, right_width}
 use Rattle.token_line.specs.declared.line.Line.{Line}
 use Rattle.token_line.specs.declared.tokens.TokenCount.{TokenCount}
-use Rattle.token_line.specs.declared.memory.CodeMemory.{CodeMemory}
 use Rattle.token_line.specs.Held.{Agrees, Fits}
 use Rattle.token_line.proofs.Filed.{alone_cell}
 use Rattle.token_line.proofs.Joined.{joined_with_one_code}
 use Rattle.token_line.proofs.Fitting.{left_length, one_length, right_length}
 use Rattle.token_line.specs.Bags.{standing}
-use Rattle.token_line.specs.inner.Codes.{cell_among, tokens_of}
-use Rattle.token_line.specs.Lines.{IsAlone, IsFiled, blockers_in, filed_in, memory_at, sum_in}
+use Rattle.token_line.specs.inner.Codes.{cell_among}
+use Rattle.token_line.specs.Lines.{IsAlone, IsFiled, blockers_in, filed_in, sum_in, tokens_at}
 use Rattle.token_line.specs.Numbers.{code_of}
-use Rattle.token_line.specs.inner.Pairs.{cell_of}
-use Rattle.token_line.specs.Sums.{blockers_kept, kept_sum, sum_kept}
+use Rattle.token_line.specs.inner.Pairs.{ArePairs, cell_of}
+use Rattle.token_line.specs.Sums.{blockers_kept, sum_kept}
 use Rattle.token_line.proofs.PairLemmas.{cell_at as pair_found}
-use Rattle.activation.specs.inner.Putting.{left_entries, right_entries}
-use Rattle.activation.specs.Acting.{AreKept, IsCounted}
+use Rattle.activation.specs.Acting.{IsCounted}
 use Rattle.activation.proofs.Agreed.{IsHeld, joins_agree}
 use Rattle.activation.proofs.CountBelow.{AreLow}
 use Rattle.activation.proofs.PutNumbers.{left_of, right_of, sum_at}
@@ -43,14 +41,6 @@ use Rattle.activation.proofs.PutNumbers.{left_of, right_of, sum_at}
 found_sum : (o : Option TokenCount) → option_map_or (λ c. c.sum) o (pos 0) ≡ sum_at (λ (c : TokenCount). c.sum) o
 found_sum None = refl
 found_sum (Some c) = refl
-
-pub right_kept : (o : Option CodeMemory) (k : List ℕ) → kept_sum (tokens_of o Right) k ≡ right_of (right_entries o) k
-right_kept None k = refl
-right_kept (Some m) k = found_sum (cell_of m.right k)
-
-pub left_kept : (o : Option CodeMemory) (k : List ℕ) → kept_sum (tokens_of o Left) k ≡ left_of (left_entries o) k
-left_kept None k = refl
-left_kept (Some m) k = found_sum (cell_of m.left k)
 
 -- ---- codes
 
@@ -70,21 +60,21 @@ module _ (nodes : List Node) (s : Stored) (line : Line) (counted : IsCounted nod
   pub filed_is : (c : ℕ) (side : Side) (t : List ℕ) → IsFiled line n c side t → cell_among line.memories n side t ≡ filed_in line n c side t
   filed_is c side t some = cell_is c side t (sym (counted.filed n c side t some))
 
-  pub right_sum_is : (c : ℕ) (k : List ℕ) → code_of (held_of s) nodes n Right k ≡ c → sum_in line n Right k ≡ right_of (right_entries (memory_at line n c)) k
-  right_sum_is c k own = ap sum_kept (cell_is c Right k own) ∙ right_kept (memory_at line n c) k
+  pub right_sum_is : (c : ℕ) (k : List ℕ) → code_of (held_of s) nodes n Right k ≡ c → sum_in line n Right k ≡ right_of (tokens_at line n c Right) k
+  right_sum_is c k own = ap sum_kept (cell_is c Right k own) ∙ found_sum (cell_of (tokens_at line n c Right) k)
 
-  pub left_sum_is : (c : ℕ) (k : List ℕ) → code_of (held_of s) nodes n Left k ≡ c → sum_in line n Left k ≡ left_of (left_entries (memory_at line n c)) k
-  left_sum_is c k own = ap sum_kept (cell_is c Left k own) ∙ left_kept (memory_at line n c) k
+  pub left_sum_is : (c : ℕ) (k : List ℕ) → code_of (held_of s) nodes n Left k ≡ c → sum_in line n Left k ≡ left_of (tokens_at line n c Left) k
+  left_sum_is c k own = ap sum_kept (cell_is c Left k own) ∙ found_sum (cell_of (tokens_at line n c Left) k)
 
-  -- those that go with a token stand in the memory of its code
+  -- those that go with a token have its code
   module _ (node : Node) (at : slice_get nodes n ≡ Some node) (c : ℕ) where
     pub right_joined : (t : List ℕ) → code_of (held_of s) nodes n Left t ≡ c → (r : List ℕ)
-        → cond (goes_with node.kind node.joins (held_of s) t r) (standing (right_of (right_entries (memory_at line n c)) r)) 0
+        → cond (goes_with node.kind node.joins (held_of s) t r) (standing (right_of (tokens_at line n c Right) r)) 0
         ≡ cond (goes_with node.kind node.joins (held_of s) t r) (standing (sum_in line n Right r)) 0
     right_joined t own r = by (goes_with node.kind node.joins (held_of s) t r) refl
       where
         by : (b : Bool) → goes_with node.kind node.joins (held_of s) t r ≡ b
-            → cond b (standing (right_of (right_entries (memory_at line n c)) r)) 0 ≡ cond b (standing (sum_in line n Right r)) 0
+            → cond b (standing (right_of (tokens_at line n c Right) r)) 0 ≡ cond b (standing (sum_in line n Right r)) 0
         by true q = ap standing (sym (right_sum_is c r (sym (joined_with_one_code (held_of s) nodes n node t r at q) ∙ own)))
         by false q = refl
 
@@ -92,76 +82,44 @@ module _ (nodes : List Node) (s : Stored) (line : Line) (counted : IsCounted nod
     joined_code r own t q = joined_with_one_code (held_of s) nodes n node t r at q ∙ own
 
     pub left_joined : (r : List ℕ) → code_of (held_of s) nodes n Right r ≡ c → (t : List ℕ)
-        → cond (goes_with node.kind node.joins (held_of s) t r) (standing (left_of (left_entries (memory_at line n c)) t)) 0
+        → cond (goes_with node.kind node.joins (held_of s) t r) (standing (left_of (tokens_at line n c Left) t)) 0
         ≡ cond (goes_with node.kind node.joins (held_of s) t r) (standing (sum_in line n Left t)) 0
     left_joined r own t = by (goes_with node.kind node.joins (held_of s) t r) refl
       where
         by : (b : Bool) → goes_with node.kind node.joins (held_of s) t r ≡ b
-            → cond b (standing (left_of (left_entries (memory_at line n c)) t)) 0 ≡ cond b (standing (sum_in line n Left t)) 0
+            → cond b (standing (left_of (tokens_at line n c Left) t)) 0 ≡ cond b (standing (sum_in line n Left t)) 0
         by true q = ap standing (sym (left_sum_is c t (joined_code r own t q)))
         by false q = refl
 
 -- ---- what is kept
 
--- of each memory that there is
-abbrev pub Kept : Option CodeMemory → Type 0
-Kept o = ForSome o AreKept
-
-pub right_distinct : (o : Option CodeMemory) → Kept o → IsDistinct bytes_eq (keys_of (right_entries o))
-unfolding IsDistinct
-right_distinct None kept = tt
-right_distinct (Some m) kept = (kept m refl).right.apart
-
-pub left_distinct : (o : Option CodeMemory) → Kept o → IsDistinct bytes_eq (keys_of (left_entries o))
-unfolding IsDistinct
-left_distinct None kept = tt
-left_distinct (Some m) kept = (kept m refl).left.apart
-
 module _ (nodes : List Node) (s : Stored) (line : Line) (counted : IsCounted nodes s line) (n c : ℕ) where
   -- what is found under the code is what the line keeps
-  found_is : (side : Side) (t : List ℕ) (k : TokenCount) → cell_of (tokens_of (memory_at line n c) side) t ≡ Some k → cell_among line.memories n side t ≡ Some k
+  found_is : (side : Side) (t : List ℕ) (k : TokenCount) → cell_of (tokens_at line n c side) t ≡ Some k → cell_among line.memories n side t ≡ Some k
   found_is side t k found = filed_is nodes s line counted n c side t (subst IsSome (sym found) refl) ∙ found
 
-  right_fits_in : (o : Option CodeMemory) → memory_at line n c ≡ o → Kept o → All (λ e. Fits nodes s n Right e.0) (right_entries o)
-  right_fits_in None mem kept i d within = All-nil (λ (e : List ℕ × TokenCount). Fits nodes s n Right e.0) i d within
-  right_fits_in (Some m) mem kept i d within =
-      let are = kept m refl in
-      let e = slice_index_or m.right i d in
-      let found = pair_found m.right are.right i e.0 e.1 (slice_get-get_or m.right i d within) in
-      let sum : sum_in line n Right e.0 ≡ e.1.sum = ap sum_kept (found_is Right e.0 e.1 (ap (λ o. cell_of (tokens_of o Right) e.0) mem ∙ found)) in
-      counted.fit n Right e.0 (λ z. are.right.some e.0 e.1 found (sym sum ∙ z))
+  -- and has a sum
+  found_some : (side : Side) (t : List ℕ) (k : TokenCount) → cell_of (tokens_at line n c side) t ≡ Some k → k.sum ≢ pos 0
+  found_some side t k found = subst (λ o. sum_kept o ≢ pos 0) found (line.some n c side t (subst IsSome (sym found) refl))
 
-  left_fits_in : (o : Option CodeMemory) → memory_at line n c ≡ o → Kept o → All (λ e. Fits nodes s n Left e.0) (left_entries o)
-  left_fits_in None mem kept i d within = All-nil (λ (e : List ℕ × TokenCount). Fits nodes s n Left e.0) i d within
-  left_fits_in (Some m) mem kept i d within =
-      let are = kept m refl in
-      let e = slice_index_or m.left i d in
-      let found = pair_found m.left are.left i e.0 e.1 (slice_get-get_or m.left i d within) in
-      let sum : sum_in line n Left e.0 ≡ e.1.sum = ap sum_kept (found_is Left e.0 e.1 (ap (λ o. cell_of (tokens_of o Left) e.0) mem ∙ found)) in
-      counted.fit n Left e.0 (λ z. are.left.some e.0 e.1 found (sym sum ∙ z))
+  pub each_fits : (side : Side) → ArePairs (tokens_at line n c side) → All (λ e. Fits nodes s n side e.0) (tokens_at line n c side)
+  each_fits side are i d within =
+      let kept = tokens_at line n c side in
+      let e = slice_index_or kept i d in
+      let found = pair_found kept are i e.0 e.1 (slice_get-get_or kept i d within) in
+      let sum : sum_in line n side e.0 ≡ e.1.sum = ap sum_kept (found_is side e.0 e.1 found) in
+      counted.fit n side e.0 (λ z. are.some e.0 e.1 found (sym sum ∙ z))
 
-  pub right_fits : Kept (memory_at line n c) → All (λ e. Fits nodes s n Right e.0) (right_entries (memory_at line n c))
-  right_fits kept = right_fits_in (memory_at line n c) refl kept
-
-  pub left_fits : Kept (memory_at line n c) → All (λ e. Fits nodes s n Left e.0) (left_entries (memory_at line n c))
-  left_fits kept = left_fits_in (memory_at line n c) refl kept
-
-  -- ---- a left token that is kept
-
-  -- what the line says of a left token of a node is what is kept of it
+  -- a left token that is found
   pub record IsCell (t : List ℕ) (k : TokenCount) : Type 0 where
     pub sum : sum_in line n Left t ≡ k.sum
     pub some : k.sum ≢ pos 0
     pub blockers : blockers_in line n t ≡ k.blockers
 
-  pub cell_at : Kept (memory_at line n c) → (t : List ℕ) (k : TokenCount) → lookup (bytes_eq t) (left_entries (memory_at line n c)) ≡ Some k → IsCell t k
-  cell_at kept t k = by (memory_at line n c) refl kept
-    where
-      by : (o : Option CodeMemory) → memory_at line n c ≡ o → Kept o → lookup (bytes_eq t) (left_entries o) ≡ Some k → IsCell t k
-      by None mem are found = cc
-      by (Some m) mem are found =
-          let is = found_is Left t k (ap (λ o. cell_of (tokens_of o Left) t) mem ∙ found) in
-          record { sum = ap sum_kept is; some = (are m refl).left.some t k found; blockers = ap blockers_kept is }
+  pub cell_at : (t : List ℕ) (k : TokenCount) → lookup (bytes_eq t) (tokens_at line n c Left) ≡ Some k → IsCell t k
+  cell_at t k found =
+      let is = found_is Left t k found in
+      record { sum = ap sum_kept is; some = found_some Left t k found; blockers = ap blockers_kept is }
 
 -- ---- widths, and what is held
 

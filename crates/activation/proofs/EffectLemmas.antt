@@ -19,18 +19,16 @@ use Rattle.token_line.specs.declared.line.Line.{Line}
 use Rattle.token_line.specs.declared.tokens.TokenCount.{TokenCount}
 use Rattle.token_line.specs.Bags.{are_same_sides}
 use Rattle.token_line.specs.Held.{TaskFits}
-use Rattle.token_line.specs.declared.memory.CodeMemory.{CodeMemory}
-use Rattle.token_line.specs.inner.Codes.{tokens_of}
-use Rattle.token_line.specs.Lines.{IsFiled, blockers_in, filed_in, memory_at, sum_in}
+use Rattle.token_line.specs.Lines.{IsFiled, blockers_in, filed_in, sum_in, tokens_at}
 use Rattle.token_line.specs.Numbers.{code_of}
-use Rattle.token_line.specs.inner.Pairs.{cell_of}
+use Rattle.token_line.specs.inner.Pairs.{ArePairs}
 use Rattle.activation.specs.Acting.{IsCounted, IsEffect, IsOutOf, matching}
 use Rattle.activation.specs.inner.Effects.{effect_at, effect_by, join_effect, left_effect, negated_effect, no_effect, right_effect}
 use Rattle.activation.specs.inner.Negating.{all_have_room, has_room}
-use Rattle.activation.specs.inner.Putting.{Put, changes, left_entries}
+use Rattle.activation.specs.inner.Putting.{Put, changes, other_side}
 use Rattle.activation.proofs.Agreed.{IsHeld}
 use Rattle.activation.proofs.Arrived.{and_false}
-use Rattle.activation.proofs.AtNode.{Kept, cell_at, cell_is, same_node}
+use Rattle.activation.proofs.AtNode.{cell_at, cell_is, same_node}
 use Rattle.activation.proofs.Matching.{blockers_are}
 use Rattle.activation.proofs.NegatedChange.{left_change, right_change}
 use Rattle.activation.proofs.Outs.{IsChange, unchanged}
@@ -42,25 +40,21 @@ room_of : (c : TokenCount) → has_room true c ≡ true → c.blockers < 2 ^ 64 
 room_of c e = (Decides-ltb c.blockers (2 ^ 64 - 1)).0 e
 
 -- where each left token that is kept under a code has room, so has each that the line keeps under it
-room_at : (nodes : List Node) (s : Stored) (line : Line) → IsCounted nodes s line → (n c : ℕ) → Kept (memory_at line n c) → all_have_room true (left_entries (memory_at line n c)) ≡ true
+room_at : (nodes : List Node) (s : Stored) (line : Line) → IsCounted nodes s line → (n c : ℕ) → all_have_room true (tokens_at line n c Left) ≡ true
     → (t : List ℕ) → IsFiled line n c Left t → blockers_in line n t < 2 ^ 64 - 1
-room_at nodes s line counted n c kept room t some = by (lookup (bytes_eq t) left) refl
+room_at nodes s line counted n c room t some = by (lookup (bytes_eq t) left) refl
   where
     left : List (List ℕ × TokenCount)
-    left = left_entries (memory_at line n c)
+    left = tokens_at line n c Left
 
     each : IfSome (lookup (bytes_eq t) left) (λ c. has_room true c ≡ true)
     each = All-lookup (λ (c : TokenCount). has_room true c ≡ true) (bytes_eq t) left (AllPass-from_list_all (λ (e : List ℕ × TokenCount). has_room true e.1) left room)
 
-    filed : (o : Option CodeMemory) → lookup (bytes_eq t) (left_entries o) ≡ cell_of (tokens_of o Left) t
-    filed None = refl
-    filed (Some m) = refl
-
     by : (o : Option TokenCount) → lookup (bytes_eq t) left ≡ o → blockers_in line n t < 2 ^ 64 - 1
-    by None found = absurd (true≢false (sym some ∙ ap is_some (sym (filed (memory_at line n c)) ∙ found)))
+    by None found = absurd (true≢false (sym some ∙ ap is_some found))
     by (Some k) found =
         let here : has_room true k ≡ true = subst (λ o. IfSome o (λ d. has_room true d ≡ true)) found each in
-        subst (λ m. m < 2 ^ 64 - 1) (sym (cell_at nodes s line counted n c kept t k found).blockers) (room_of k here)
+        subst (λ m. m < 2 ^ 64 - 1) (sym (cell_at nodes s line counted n c t k found).blockers) (room_of k here)
 
 join_blocks_not : (k : Kind) → is_join k ≡ true → (b : Bool) → false ≡ (is_negated k && b)
 join_blocks_not Join e b = refl
@@ -75,7 +69,13 @@ join_not_negated (Group giver width members) e f = cc
 join_not_negated (Terminal rule) e f = cc
 
 module _ (alphas : List Alpha) (nodes : List Node) (sound : IsSound alphas nodes) (s : Stored) (line : Line) (x : Task) (fits : TaskFits nodes s x) (counts : IsCounted nodes s line)
-    (node : Node) (at : slice_get nodes x.node ≡ Some node) (c : ℕ) (code : code_of (held_of s) nodes x.node x.side x.token ≡ c) (kept : Kept (memory_at line x.node c)) where
+    (node : Node) (at : slice_get nodes x.node ≡ Some node) (c : ℕ) (code : code_of (held_of s) nodes x.node x.side x.token ≡ c) (kept : ArePairs (tokens_at line x.node c (other_side x.side))) where
+  abbrev partners : List (List ℕ × TokenCount)
+  partners = tokens_at line x.node c (other_side x.side)
+
+  kept_at : (d : Side) → x.side ≡ d → ArePairs (tokens_at line x.node c (other_side d))
+  kept_at d e = subst (λ side. ArePairs (tokens_at line x.node c (other_side side))) e kept
+
   -- ---- at a join
 
   join_done : is_join node.kind ≡ true → (puts : List Put) → IsChange nodes s line x x.plus puts → IsEffect nodes s line x (record { plus = x.plus; puts = puts; blockers = 0; blocks = false })
@@ -88,7 +88,7 @@ module _ (alphas : List Alpha) (nodes : List Node) (sound : IsSound alphas nodes
     room = λ blocks. cc;
   }
 
-  pub join_is : is_join node.kind ≡ true → (moves : Bool) → moves ≡ changes (sum_in line x.node x.side x.token) x.plus → IsEffect nodes s line x (join_effect node.joins (held_of s) (memory_at line x.node c) x moves)
+  pub join_is : is_join node.kind ≡ true → (moves : Bool) → moves ≡ changes (sum_in line x.node x.side x.token) x.plus → IsEffect nodes s line x (join_effect node.joins (held_of s) partners x moves)
   join_is join true e = join_done join _ (put_by_join alphas nodes sound s line x fits counts node at join c code kept (sym e))
   join_is join false e = join_done join [] (unchanged nodes s line x (sym e) x.plus)
 
@@ -109,14 +109,14 @@ module _ (alphas : List Alpha) (nodes : List Node) (sound : IsSound alphas nodes
       room = λ blocks. cc;
     }
 
-    pub left_is : x.side ≡ Left → (moves : Bool) → moves ≡ changes (sum_in line x.node x.side x.token) x.plus → IsEffect nodes s line x (left_effect node (held_of s) (memory_at line x.node c) x moves)
+    pub left_is : x.side ≡ Left → (moves : Bool) → moves ≡ changes (sum_in line x.node x.side x.token) x.plus → IsEffect nodes s line x (left_effect node (held_of s) (filed_in line x.node c Left x.token) (tokens_at line x.node c Right) x moves)
     left_is e true had =
-        let number = blockers_are nodes s line counts x.node node at negated small c kept x.token (left_code e) in
+        let number = blockers_are nodes s line counts x.node node at negated small c (kept_at Left e) x.token (left_code e) in
         left_done e _ _ number (left_change alphas nodes sound s line x fits counts node at negated (sym had) e _ number)
-    left_is e false had = left_done e [] _ (blockers_are nodes s line counts x.node node at negated small c kept x.token (left_code e)) (unchanged nodes s line x (sym had) x.plus)
+    left_is e false had = left_done e [] _ (blockers_are nodes s line counts x.node node at negated small c (kept_at Left e) x.token (left_code e)) (unchanged nodes s line x (sym had) x.plus)
 
     right_done : x.side ≡ Right → (puts : List Put) (moves : Bool) → moves ≡ changes (sum_in line x.node x.side x.token) x.plus → IsChange nodes s line x (not x.plus) puts
-        → (moves ≡ true → all_have_room x.plus (left_entries (memory_at line x.node c)) ≡ true)
+        → (moves ≡ true → all_have_room x.plus (tokens_at line x.node c Left) ≡ true)
         → IsEffect nodes s line x (record { plus = not x.plus; puts = puts; blockers = 0; blocks = moves })
     right_done e puts moves had is room = record {
       fit = is.fit;
@@ -127,14 +127,14 @@ module _ (alphas : List Alpha) (nodes : List Node) (sound : IsSound alphas nodes
           ∙ ap₂ (λ a b. a && (b && changes (sum_in line x.node x.side x.token) x.plus))
           (sym (ap (λ (z : Node). is_negated z.kind) (same_node other node (sym there ∙ at)) ∙ negated)) (sym (ap (λ d. are_same_sides Right d) e));
       room = λ blocks more t some.
-          room_at nodes s line counts x.node c kept (subst (λ p. all_have_room p (left_entries (memory_at line x.node c)) ≡ true) more (room blocks)) t
+          room_at nodes s line counts x.node c (subst (λ p. all_have_room p (tokens_at line x.node c Left) ≡ true) more (room blocks)) t
           (subst (λ k. IsFiled line x.node k Left t) code some);
     }
 
     pub right_is : x.side ≡ Right → (moves : Bool) → moves ≡ changes (sum_in line x.node x.side x.token) x.plus
-        → (moves ≡ true → all_have_room x.plus (left_entries (memory_at line x.node c)) ≡ true)
-        → IsEffect nodes s line x (right_effect node (held_of s) (memory_at line x.node c) x moves)
-    right_is e true had room = right_done e _ true had (right_change alphas nodes sound s line x fits counts node at negated (sym had) e small c code kept) room
+        → (moves ≡ true → all_have_room x.plus (tokens_at line x.node c Left) ≡ true)
+        → IsEffect nodes s line x (right_effect node (held_of s) (tokens_at line x.node c Left) x moves)
+    right_is e true had room = right_done e _ true had (right_change alphas nodes sound s line x fits counts node at negated (sym had) e small c code (kept_at Right e)) room
     right_is e false had room = right_done e [] false had (unchanged nodes s line x (sym had) (not x.plus)) room
 
   -- ---- at a terminal
@@ -166,25 +166,27 @@ module _ (alphas : List Alpha) (nodes : List Node) (sound : IsSound alphas nodes
   -- ---- by the kind of the node
 
   pub effect_is : ((tag : ℕ) → IsHeld s tag → tag < 2 ^ 64) → (moves : Bool) → moves ≡ changes (sum_in line x.node x.side x.token) x.plus
-      → (is_negated node.kind ≡ true → x.side ≡ Right → moves ≡ true → all_have_room x.plus (left_entries (memory_at line x.node c)) ≡ true)
-      → IsEffect nodes s line x (effect_at node (held_of s) (memory_at line x.node c) x moves)
+      → (is_negated node.kind ≡ true → x.side ≡ Right → moves ≡ true → all_have_room x.plus partners ≡ true)
+      → IsEffect nodes s line x (effect_at node (held_of s) (filed_in line x.node c x.side x.token) partners x moves)
   effect_is small moves had room = by node.kind refl
     where
-      by_side : is_negated node.kind ≡ true → (d : Side) → x.side ≡ d → IsEffect nodes s line x (negated_effect d node (held_of s) (memory_at line x.node c) x moves)
-      by_side q Left e = left_is q small e moves had
-      by_side q Right e = right_is q small e moves had (room q e)
+      by_side : is_negated node.kind ≡ true → (d : Side) → x.side ≡ d → (moves ≡ true → x.side ≡ Right → all_have_room x.plus (tokens_at line x.node c (other_side d)) ≡ true)
+          → IsEffect nodes s line x (negated_effect d node (held_of s) (filed_in line x.node c d x.token) (tokens_at line x.node c (other_side d)) x moves)
+      by_side q Left e wide = left_is q small e moves had
+      by_side q Right e wide = right_is q small e moves had (λ m. wide m e)
 
-      by : (k : Kind) → node.kind ≡ k → IsEffect nodes s line x (effect_by k node (held_of s) (memory_at line x.node c) x moves)
+      by : (k : Kind) → node.kind ≡ k → IsEffect nodes s line x (effect_by k node (held_of s) (filed_in line x.node c x.side x.token) partners x moves)
       by Join q = join_is (ap is_join q) moves had
-      by Negated q = by_side (ap is_negated q) x.side refl
-      by (Group giver width members) q = by_side (ap is_negated q) x.side refl
+      by Negated q = by_side (ap is_negated q) x.side refl (λ m e. room (ap is_negated q) e m)
+      by (Group giver width members) q = by_side (ap is_negated q) x.side refl (λ m e. room (ap is_negated q) e m)
       by (Terminal rule) q = terminal_is (ap is_terminal q)
 
   -- the same, of what was found on the line
-  pub done_effect : ((tag : ℕ) → IsHeld s tag → tag < 2 ^ 64) → (m : Option CodeMemory) → m ≡ memory_at line x.node c → (o : Option TokenCount) → o ≡ filed_in line x.node c x.side x.token
-      → (is_negated node.kind ≡ true → x.side ≡ Right → changes (option_map_or (λ (c : TokenCount). c.sum) o (pos 0)) x.plus ≡ true → all_have_room x.plus (left_entries m) ≡ true)
-      → IsEffect nodes s line x (effect_at node (held_of s) m x (changes (option_map_or (λ (c : TokenCount). c.sum) o (pos 0)) x.plus))
-  done_effect small m is o kept_is room =
-      subst (λ k. IsEffect nodes s line x (effect_at node (held_of s) k x (changes (option_map_or (λ (c : TokenCount). c.sum) o (pos 0)) x.plus))) (sym is)
+  pub done_effect : ((tag : ℕ) → IsHeld s tag → tag < 2 ^ 64) → (ps : List (List ℕ × TokenCount)) → ps ≡ partners → (o : Option TokenCount) → o ≡ filed_in line x.node c x.side x.token
+      → (is_negated node.kind ≡ true → x.side ≡ Right → changes (option_map_or (λ (c : TokenCount). c.sum) o (pos 0)) x.plus ≡ true → all_have_room x.plus ps ≡ true)
+      → IsEffect nodes s line x (effect_at node (held_of s) o ps x (changes (option_map_or (λ (c : TokenCount). c.sum) o (pos 0)) x.plus))
+  done_effect small ps is o kept_is room =
+      subst (λ k. IsEffect nodes s line x (effect_at node (held_of s) o k x (changes (option_map_or (λ (c : TokenCount). c.sum) o (pos 0)) x.plus))) (sym is)
+      (subst (λ k. IsEffect nodes s line x (effect_at node (held_of s) k partners x (changes (option_map_or (λ (c : TokenCount). c.sum) o (pos 0)) x.plus))) (sym kept_is)
       (effect_is small (changes (option_map_or (λ (c : TokenCount). c.sum) o (pos 0)) x.plus) (ap (λ z. changes (option_map_or (λ (c : TokenCount). c.sum) z (pos 0)) x.plus) (kept_is ∙ sym (cell_is nodes s line counts x.node c x.side x.token code)))
-      (λ q e moved. ap (λ k. all_have_room x.plus (left_entries k)) (sym is) ∙ room q e moved))
+      (λ q e moved. ap (λ k. all_have_room x.plus k) (sym is) ∙ room q e moved)))

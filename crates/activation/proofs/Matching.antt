@@ -14,18 +14,18 @@ use Rattle.net_base.specs.Sound.{IsSound, is_negated}
 use Rattle.net_base.specs.Tokens.{Elements, count_with, goes_with, right_width}
 use Rattle.token_line.specs.declared.line.Line.{Line}
 use Rattle.token_line.specs.declared.tokens.TokenCount.{TokenCount}
-use Rattle.token_line.specs.declared.memory.CodeMemory.{CodeMemory}
 use Rattle.token_line.specs.Bags.{Bag, after, standing, standing_at}
 use Rattle.token_line.specs.Held.{Agrees, Fits}
-use Rattle.token_line.specs.Lines.{memory_at, sum_in}
+use Rattle.token_line.specs.Lines.{filed_in, sum_in, tokens_at}
+use Rattle.token_line.specs.inner.Pairs.{ArePairs}
 use Rattle.token_line.specs.Numbers.{code_of}
 use Rattle.token_line.specs.Sums.{counted}
 use Rattle.activation.specs.Acting.{IsCounted, matching, signed}
 use Rattle.activation.specs.inner.Negating.{blockers_for, number_matching}
-use Rattle.activation.specs.inner.Putting.{changes, left_entries, right_entries}
+use Rattle.activation.specs.inner.Putting.{changes}
 use Rattle.activation.proofs.Agreed.{IsHeld}
 use Rattle.activation.proofs.Arrived.{other_sum, own_sum}
-use Rattle.activation.proofs.AtNode.{Kept, both_go, cell_at, right_distinct, right_fits, right_joined, right_low, right_wide}
+use Rattle.activation.proofs.AtNode.{both_go, cell_at, each_fits, right_joined, right_low, right_wide}
 use Rattle.activation.proofs.CountBelow.{AreLow, count_moves, count_none, count_one, count_same, one_stood}
 use Rattle.activation.proofs.JoinChange.{agreed, moves}
 use Rattle.activation.proofs.PutNumbers.{bytes_false, bytes_true, nothing, right_of, sum_at}
@@ -71,41 +71,37 @@ module _ (nodes : List Node) (s : Stored) (line : Line) (counted : IsCounted nod
       (λ v. sym (agreed (goes_with node.kind node.joins elements t v) (goes_with node.kind node.joins (held_of s) t v) (standing_at (sum_in line) n Right v)
       (λ some. both_go nodes s n node at alphas sound elements agrees t v f (counted.fit n Right v (standing_some (sum_in line n Right v) some)))))
 
-  module _ (small : (tag : ℕ) → IsHeld s tag → tag < 2 ^ 64) (c : ℕ) (kept : Kept (memory_at line n c)) (t : List ℕ) (own : code_of (held_of s) nodes n Left t ≡ c) where
+  module _ (small : (tag : ℕ) → IsHeld s tag → tag < 2 ^ 64) (c : ℕ) (kept : ArePairs (tokens_at line n c Right)) (t : List ℕ) (own : code_of (held_of s) nodes n Left t ≡ c) where
     -- what a look at each right token finds
-    number_over : number_matching node (held_of s) t (right_entries (memory_at line n c)) ≡ matching (held_of s) node (sum_in line) n t
+    number_over : number_matching node (held_of s) t (tokens_at line n c Right) ≡ matching (held_of s) node (sum_in line) n t
     number_over =
-        number_is (2 ^ 64) node (held_of s) t right (right_distinct (memory_at line n c) kept) wides lows
+        number_is (2 ^ 64) node (held_of s) t right kept.apart wides lows
         ∙ count_same (2 ^ 64) (right_width node.kind) (goes_with node.kind node.joins (held_of s) t) (goes_with node.kind node.joins (held_of s) t) (λ v. standing (right_of right v)) (standing_at (sum_in line) n Right) []
         (λ v. right_joined nodes s line counted n node at c t own v)
       where
         right : List (List ℕ × TokenCount)
-        right = right_entries (memory_at line n c)
+        right = tokens_at line n c Right
 
         wides : AllByRecursion (λ e. length e.0 ≡ right_width node.kind) right
         wides =
             recursion_from_All (λ (e : List ℕ × TokenCount). length e.0 ≡ right_width node.kind) right
-            (λ i d within. right_wide nodes s n node at (slice_index_or right i d).0 (right_fits nodes s line counted n c kept i d within))
+            (λ i d within. right_wide nodes s n node at (slice_index_or right i d).0 (each_fits nodes s line counted n c Right kept i d within))
 
         lows : AllByRecursion (λ e. AreLow (2 ^ 64) e.0) right
         lows =
             recursion_from_All (λ (e : List ℕ × TokenCount). AreLow (2 ^ 64) e.0) right
-            (λ i d within. right_low nodes s n node at small (slice_index_or right i d).0 (right_fits nodes s line counted n c kept i d within))
+            (λ i d within. right_low nodes s n node at small (slice_index_or right i d).0 (each_fits nodes s line counted n c Right kept i d within))
 
     -- what the line keeps with a left token, else counted
-    pub blockers_are : blockers_for node (held_of s) (memory_at line n c) t ≡ matching (held_of s) node (sum_in line) n t
-    blockers_are = by (memory_at line n c) refl
+    pub blockers_are : blockers_for node (held_of s) (filed_in line n c Left t) (tokens_at line n c Right) t ≡ matching (held_of s) node (sum_in line) n t
+    blockers_are = by (filed_in line n c Left t) refl
       where
-        by : (o : Option CodeMemory) → memory_at line n c ≡ o → blockers_for node (held_of s) o t ≡ matching (held_of s) node (sum_in line) n t
-        by None mem = ap (λ o. number_matching node (held_of s) t (right_entries o)) (sym mem) ∙ number_over
-        by (Some m) mem = of_cell (lookup (bytes_eq t) m.left) refl
-          where
-            of_cell : (o : Option TokenCount) → lookup (bytes_eq t) m.left ≡ o
-                → option_map_or (λ (c : TokenCount). c.blockers) o (number_matching node (held_of s) t m.right) ≡ matching (held_of s) node (sum_in line) n t
-            of_cell None found = ap (λ o. number_matching node (held_of s) t (right_entries o)) (sym mem) ∙ number_over
-            of_cell (Some k) found =
-                let is = cell_at nodes s line counted n c kept t k (ap (λ o. lookup (bytes_eq t) (left_entries o)) mem ∙ found) in
-                sym is.blockers ∙ counted.counts n node t at negated (λ z. is.some (sym is.sum ∙ z))
+        by : (o : Option TokenCount) → filed_in line n c Left t ≡ o
+            → option_map_or (λ (c : TokenCount). c.blockers) o (number_matching node (held_of s) t (tokens_at line n c Right)) ≡ matching (held_of s) node (sum_in line) n t
+        by None found = number_over
+        by (Some k) found =
+            let is = cell_at nodes s line counted n c t k found in
+            sym is.blockers ∙ counted.counts n node t at negated (λ z. is.some (sym is.sum ∙ z))
 
 -- ---- once a task has arrived
 

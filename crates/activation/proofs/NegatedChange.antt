@@ -20,15 +20,16 @@ use Rattle.token_line.specs.declared.tokens.TokenCount.{TokenCount}
 use Rattle.token_line.specs.Bags.{after, standing, standing_at}
 use Rattle.token_line.specs.Held.{Agrees, Fits, TaskFits}
 use Rattle.token_line.specs.Lawful.{out_at}
-use Rattle.token_line.specs.Lines.{memory_at, sum_in}
+use Rattle.token_line.specs.Lines.{sum_in, tokens_at}
+use Rattle.token_line.specs.inner.Pairs.{ArePairs}
 use Rattle.token_line.specs.Numbers.{code_of}
 use Rattle.token_line.specs.Sums.{counted}
 use Rattle.activation.specs.Acting.{IsCounted, IsOutOf, matching, number_put, signed}
 use Rattle.activation.specs.inner.Negating.{put_once, put_flipped, before_flip}
-use Rattle.activation.specs.inner.Putting.{Put, changes, left_entries}
+use Rattle.activation.specs.inner.Putting.{Put, changes}
 use Rattle.activation.proofs.Agreed.{IsHeld}
 use Rattle.activation.proofs.Arrived.{other_sum, own_sum}
-use Rattle.activation.proofs.AtNode.{Kept, both_go, cell_at, joined_code, left_distinct, left_fits, left_long, left_sum_is, right_low, right_wide}
+use Rattle.activation.proofs.AtNode.{both_go, cell_at, each_fits, joined_code, left_long, left_sum_is, right_low, right_wide}
 use Rattle.activation.proofs.CountBelow.{AreLow}
 use Rattle.activation.proofs.Childhood.{eqb-apart}
 use Rattle.activation.proofs.JoinChange.{moves, nothing_moves}
@@ -157,9 +158,9 @@ module _ (alphas : List Alpha) (nodes : List Node) (sound : IsSound alphas nodes
 
   -- ---- a right task
 
-  module _ (e : x.side ≡ Right) (small : (tag : ℕ) → IsHeld s tag → tag < 2 ^ 64) (c : ℕ) (code : code_of (held_of s) nodes x.node x.side x.token ≡ c) (kept : Kept (memory_at line x.node c)) where
+  module _ (e : x.side ≡ Right) (small : (tag : ℕ) → IsHeld s tag → tag < 2 ^ 64) (c : ℕ) (code : code_of (held_of s) nodes x.node x.side x.token ≡ c) (kept : ArePairs (tokens_at line x.node c Left)) where
     abbrev left : List (List ℕ × TokenCount)
-    left = left_entries (memory_at line x.node c)
+    left = tokens_at line x.node c Left
 
     mine : Fits nodes s x.node Right x.token
     mine = subst (λ d. Fits nodes s x.node d x.token) e fits
@@ -184,7 +185,7 @@ module _ (alphas : List Alpha) (nodes : List Node) (sound : IsSound alphas nodes
         ≡ pos (cond (matching elements node (after (sum_in line) x) x.node t == 0) (standing_at (after (sum_in line) x) x.node Left t) 0)
     right_at elements t agrees =
         ap (λ n. signed (not x.plus) n +ℤ pos (cond (matching elements node (sum_in line) x.node t == 0) (standing_at (sum_in line) x.node Left t) 0))
-        (flipped_number node (held_of s) x.token x.plus t left (left_distinct (memory_at line x.node c) kept))
+        (flipped_number node (held_of s) x.token x.plus t left kept.apart)
         ∙ (by (lookup (bytes_eq t) left) refl ∙ ap (λ n. pos (cond (matching elements node (after (sum_in line) x) x.node t == 0) n 0)) (sym (left_stays t)))
       where
         by : (o : Option TokenCount) → lookup (bytes_eq t) left ≡ o
@@ -215,7 +216,7 @@ module _ (alphas : List Alpha) (nodes : List Node) (sound : IsSound alphas nodes
                 (sym (right_matches (sum_in line) x elements node t e wide low moved
                 ∙ ap (λ j. cond j (counted x.plus (matching elements node (sum_in line) x.node t)) (matching elements node (sum_in line) x.node t)) apart)))
         by (Some k) found =
-            let is = cell_at nodes s line counts x.node c kept t k found in
+            let is = cell_at nodes s line counts x.node c t k found in
             let some : sum_in line x.node Left t ≢ pos 0 = λ z. is.some (sym is.sum ∙ z) in
             let f = counts.fit x.node Left t some in
             let number : k.blockers ≡ matching elements node (sum_in line) x.node t =
@@ -238,6 +239,6 @@ module _ (alphas : List Alpha) (nodes : List Node) (sound : IsSound alphas nodes
           All-from_recursion (λ (p : Put). IsOutOf nodes s x.node p.token) (put_flipped node (held_of s) x.token x.plus left)
           (all_flipped node (held_of s) x.token x.plus (IsOutOf nodes s x.node) left
           (recursion_from_All (λ (l : List ℕ × TokenCount). IsOutOf nodes s x.node l.0) left
-          (λ i d within. own_out (slice_index_or left i d).0 (left_fits nodes s line counts x.node c kept i d within))));
+          (λ i d within. own_out (slice_index_or left i d).0 (each_fits nodes s line counts x.node c Left kept i d within))));
       change = λ elements t agrees. change_over (not x.plus) (put_flipped node (held_of s) x.token x.plus left) elements t (right_at elements t agrees);
     }

@@ -19,13 +19,14 @@ use Rattle.token_line.specs.declared.tokens.TokenCount.{TokenCount}
 use Rattle.token_line.specs.Bags.{after, standing, standing_at}
 use Rattle.token_line.specs.Held.{Agrees, Fits, TaskFits}
 use Rattle.token_line.specs.Lawful.{out_at}
-use Rattle.token_line.specs.Lines.{memory_at, sum_in}
+use Rattle.token_line.specs.Lines.{sum_in, tokens_at}
+use Rattle.token_line.specs.inner.Pairs.{ArePairs}
 use Rattle.token_line.specs.Numbers.{code_of}
-use Rattle.activation.specs.inner.Putting.{Put, changes, left_entries, put_for, put_for_left, put_for_right, right_entries}
+use Rattle.activation.specs.inner.Putting.{Put, changes, other_side, put_for, put_for_left, put_for_right}
 use Rattle.activation.specs.Acting.{IsCounted, IsOutOf, number_put, signed}
 use Rattle.activation.proofs.Agreed.{IsHeld}
 use Rattle.activation.proofs.Arrived.{other_sum, own_sum}
-use Rattle.activation.proofs.AtNode.{Kept, both_agree, left_distinct, left_fits, left_joined, left_long, only_one, right_distinct, right_fits, right_held, right_joined, right_long}
+use Rattle.activation.proofs.AtNode.{both_agree, each_fits, left_joined, left_long, only_one, right_held, right_joined, right_long}
 use Rattle.activation.proofs.JoinChange.{left_change, moves, right_change}
 use Rattle.activation.proofs.Outs.{IsChange, join_out}
 use Rattle.activation.proofs.PutNumbers.{all_left, all_right, left_none, left_number, left_of, right_of, right_none, right_number}
@@ -69,12 +70,12 @@ change_over nodes line x puts node elements t at join moved =
 
 module _ (alphas : List Alpha) (nodes : List Node) (sound : IsSound alphas nodes) (s : Stored) (line : Line) (x : Task) (fits : TaskFits nodes s x) (counted : IsCounted nodes s line)
     (node : Node) (at : slice_get nodes x.node ≡ Some node) (join : is_join node.kind ≡ true)
-    (c : ℕ) (code : code_of (held_of s) nodes x.node x.side x.token ≡ c) (kept : Kept (memory_at line x.node c)) where
+    (c : ℕ) (code : code_of (held_of s) nodes x.node x.side x.token ≡ c) where
   abbrev left : List (List ℕ × TokenCount)
-  left = left_entries (memory_at line x.node c)
+  left = tokens_at line x.node c Left
 
   abbrev right : List (List ℕ × TokenCount)
-  right = right_entries (memory_at line x.node c)
+  right = tokens_at line x.node c Right
 
   held_at : (t : List ℕ) → Fits nodes s x.node Right t → IsHeld s (slice_index t 0)
   held_at t f = right_held nodes s x.node node at (takes_of node.kind join) t f
@@ -87,13 +88,13 @@ module _ (alphas : List Alpha) (nodes : List Node) (sound : IsSound alphas nodes
 
   -- ---- a left task
 
-  put_by_left : x.side ≡ Left → changes (sum_in line x.node x.side x.token) x.plus ≡ true → IsChange nodes s line x x.plus (put_for_left node.joins (held_of s) x.token right)
-  put_by_left e moved = record {
+  put_by_left : ArePairs right → x.side ≡ Left → changes (sum_in line x.node x.side x.token) x.plus ≡ true → IsChange nodes s line x x.plus (put_for_left node.joins (held_of s) x.token right)
+  put_by_left kept e moved = record {
     fit =
         All-from_recursion (λ (p : Put). IsOutOf nodes s x.node p.token) (put_for_left node.joins (held_of s) x.token right)
         (all_left node.joins (held_of s) x.token (IsOutOf nodes s x.node) right
         (recursion_from_All (λ r. IsOutOf nodes s x.node (x.token ++ slice_index r.0 0 ∷ [])) right
-        (λ i d within. let r = slice_index_or right i d in longer x.token (slice_index r.0 0) own (held_at r.0 (right_fits nodes s line counted x.node c kept i d within)))));
+        (λ i d within. let r = slice_index_or right i d in longer x.token (slice_index r.0 0) own (held_at r.0 (each_fits nodes s line counted x.node c Right kept i d within)))));
     change = λ elements t agrees. change_over nodes line x (put_for_left node.joins (held_of s) x.token right) node elements t at join (over_tokens elements t agrees);
   }
     where
@@ -101,7 +102,7 @@ module _ (alphas : List Alpha) (nodes : List Node) (sound : IsSound alphas nodes
       own = subst (λ d. Fits nodes s x.node d x.token) e fits
 
       ones : AllByRecursion (λ r. length r.0 ≡ 1) right
-      ones = recursion_from_All (λ r. length r.0 ≡ 1) right (λ i d within. right_long nodes s x.node node at (takes_of node.kind join) (slice_index_or right i d).0 (right_fits nodes s line counted x.node c kept i d within))
+      ones = recursion_from_All (λ r. length r.0 ≡ 1) right (λ i d within. right_long nodes s x.node node at (takes_of node.kind join) (slice_index_or right i d).0 (each_fits nodes s line counted x.node c Right kept i d within))
 
       had : changes (sum_in line x.node Left x.token) x.plus ≡ true
       had = subst (λ d. changes (sum_in line x.node d x.token) x.plus ≡ true) e moved
@@ -112,7 +113,7 @@ module _ (alphas : List Alpha) (nodes : List Node) (sound : IsSound alphas nodes
       over_tokens elements t agrees =
           left_change node.joins elements (standing_at (sum_in line) x.node Left) (standing_at (sum_in line) x.node Right) (standing_at (after (sum_in line) x) x.node Left) (standing_at (after (sum_in line) x) x.node Right)
           (held_of s) x.plus x.token (put_for_left node.joins (held_of s) x.token right)
-          (λ k. left_number node.joins (held_of s) x.token k right (right_distinct (memory_at line x.node c) kept) ones ∙ subst (λ b. cond b (standing (right_of right (k ∷ []))) 0 ≡ cond b (standing_at (sum_in line) x.node Right (k ∷ [])) 0) (as_join node.kind join node.joins (held_of s) x.token (k ∷ []))
+          (λ k. left_number node.joins (held_of s) x.token k right kept.apart ones ∙ subst (λ b. cond b (standing (right_of right (k ∷ []))) 0 ≡ cond b (standing_at (sum_in line) x.node Right (k ∷ [])) 0) (as_join node.kind join node.joins (held_of s) x.token (k ∷ []))
           (right_joined nodes s line counted x.node node at c x.token (subst (λ d. code_of (held_of s) nodes x.node d x.token ≡ c) e code) (k ∷ [])))
           (λ u ne. left_none node.joins (held_of s) x.token u ne right)
           (λ k some. both_agree nodes s x.node node at alphas sound elements agrees x.token k own (held_at (k ∷ []) (counted.fit x.node Right (k ∷ []) (standing_some (sum_in line x.node Right (k ∷ [])) some))))
@@ -122,13 +123,13 @@ module _ (alphas : List Alpha) (nodes : List Node) (sound : IsSound alphas nodes
 
   -- ---- a right task
 
-  put_by_right : x.side ≡ Right → changes (sum_in line x.node x.side x.token) x.plus ≡ true → IsChange nodes s line x x.plus (put_for_right node.joins (held_of s) (slice_index x.token 0) left)
-  put_by_right e moved = record {
+  put_by_right : ArePairs left → x.side ≡ Right → changes (sum_in line x.node x.side x.token) x.plus ≡ true → IsChange nodes s line x x.plus (put_for_right node.joins (held_of s) (slice_index x.token 0) left)
+  put_by_right kept e moved = record {
     fit =
         All-from_recursion (λ (p : Put). IsOutOf nodes s x.node p.token) (put_for_right node.joins (held_of s) tag left)
         (all_right node.joins (held_of s) tag (IsOutOf nodes s x.node) left
         (recursion_from_All (λ l. IsOutOf nodes s x.node (l.0 ++ tag ∷ [])) left
-        (λ i d within. let l = slice_index_or left i d in longer l.0 tag (left_fits nodes s line counted x.node c kept i d within) (held_at x.token own))));
+        (λ i d within. let l = slice_index_or left i d in longer l.0 tag (each_fits nodes s line counted x.node c Left kept i d within) (held_at x.token own))));
     change = λ elements t agrees. change_over nodes line x (put_for_right node.joins (held_of s) tag left) node elements t at join (over_tokens elements t agrees);
   }
     where
@@ -153,7 +154,7 @@ module _ (alphas : List Alpha) (nodes : List Node) (sound : IsSound alphas nodes
       over_tokens elements t agrees =
           right_change node.joins elements (standing_at (sum_in line) x.node Left) (standing_at (sum_in line) x.node Right) (standing_at (after (sum_in line) x) x.node Left) (standing_at (after (sum_in line) x) x.node Right)
           (held_of s) x.plus tag (put_for_right node.joins (held_of s) tag left)
-          (λ f. right_number node.joins (held_of s) tag f left (left_distinct (memory_at line x.node c) kept) ∙ subst (λ b. cond b (standing (left_of left f)) 0 ≡ cond b (standing_at (sum_in line) x.node Left f) 0) (as_join node.kind join node.joins (held_of s) f (tag ∷ []))
+          (λ f. right_number node.joins (held_of s) tag f left kept.apart ∙ subst (λ b. cond b (standing (left_of left f)) 0 ≡ cond b (standing_at (sum_in line) x.node Left f) 0) (as_join node.kind join node.joins (held_of s) f (tag ∷ []))
           (left_joined nodes s line counted x.node node at c (tag ∷ []) tag_code f))
           (λ u ne. right_none node.joins (held_of s) tag u ne left)
           (λ f some. both_agree nodes s x.node node at alphas sound elements agrees f tag (counted.fit x.node Left f (standing_some (sum_in line x.node Left f) some)) (held_at x.token own))
@@ -162,9 +163,10 @@ module _ (alphas : List Alpha) (nodes : List Node) (sound : IsSound alphas nodes
           (λ k ne. ap standing (sym (other_sum (sum_in line) x x.node Right (k ∷ []) (λ i. ne (first_tag k tag (i.token ∙ one))))))
           (λ v. ap standing (sym (other_sum (sum_in line) x x.node Left v (λ i. sides_differ (sym (i.side ∙ e)))))) t
 
-  pub put_by_join : changes (sum_in line x.node x.side x.token) x.plus ≡ true → IsChange nodes s line x x.plus (put_for node.joins (held_of s) (memory_at line x.node c) x.side x.token)
-  put_by_join moved = by x.side refl
+  pub put_by_join : ArePairs (tokens_at line x.node c (other_side x.side)) → changes (sum_in line x.node x.side x.token) x.plus ≡ true
+      → IsChange nodes s line x x.plus (put_for node.joins (held_of s) (tokens_at line x.node c (other_side x.side)) x.side x.token)
+  put_by_join kept moved = by x.side refl kept
     where
-      by : (d : Side) → x.side ≡ d → IsChange nodes s line x x.plus (put_for node.joins (held_of s) (memory_at line x.node c) d x.token)
-      by Left e = put_by_left e moved
-      by Right e = put_by_right e moved
+      by : (d : Side) → x.side ≡ d → ArePairs (tokens_at line x.node c (other_side d)) → IsChange nodes s line x x.plus (put_for node.joins (held_of s) (tokens_at line x.node c (other_side d)) d x.token)
+      by Left e are = put_by_left are e moved
+      by Right e are = put_by_right are e moved

@@ -1,5 +1,5 @@
 -- A line is still counted once a task has arrived, with what blocks its left tokens counted anew.
-use Rattle.std.proofs.Common.{◌≡◌, ◌≢◌, ℕ, ◌-◌, ◌<◌, ◌^◌, ◌==◌, ◌&&◌, Bool, true, false, cond, List, [], ◌∷◌, ◌++◌, pos, refl, sym, ap, ap₂, subst, ◌∙◌, slice_get, bytes_eq, Some, ◌⊎◌, inl, inr, true≢false}
+use Rattle.std.proofs.Common.{◌≡◌, ◌≢◌, ℕ, ◌-◌, ◌<◌, ◌^◌, ◌==◌, ◌&&◌, Bool, true, false, cond, List, [], ◌∷◌, ◌++◌, pos, refl, sym, ap, ap₂, subst, ◌∙◌, fold, slice_get, bytes_eq, Some, ◌⊎◌, inl, inr, true≢false}
 use Rattle.std.proofs.lemmas.Bool.Decides.{Decides-eqb}
 use Rattle.std.proofs.lemmas.List.{map-append}
 use Rattle.std.proofs.lemmas.List.Elements.{filter-append}
@@ -18,20 +18,30 @@ use Rattle.token_line.specs.declared.line.Line.{Line}
 use Rattle.token_line.specs.Bags.{after, are_same_sides, is_at, standing}
 use Rattle.token_line.specs.Held.{Fits, TaskFits}
 use Rattle.token_line.specs.Lines.{IsFiled, KeepsCodes, blockers_in, sum_in}
-use Rattle.token_line.specs.Numbers.{code_of}
+use Rattle.token_line.specs.Numbers.{code_of, kept_at, kept_codes, mixed}
 use Rattle.token_line.proofs.Filed.{filed_stands, kept_under}
 use Rattle.token_line.proofs.Fitting.{node_of}
 use Rattle.token_line.proofs.Joined.{joined_with_one_code}
 use Rattle.token_line.proofs.LineLemmas.{at_task}
 use Rattle.token_line.specs.Sums.{counted}
 use Rattle.activation.specs.inner.Effects.{Effect}
-use Rattle.activation.specs.Acting.{IsCounted, IsEffect, is_last, lasts_of, matching}
+use Rattle.activation.specs.Acting.{IsCounted, IsEffect, TellsOfLasts, is_last, lasts_of, matching}
 use Rattle.activation.specs.inner.Negating.{is_matched}
 use Rattle.activation.specs.inner.Putting.{changes}
 use Rattle.activation.proofs.Agreed.{IsHeld}
 use Rattle.activation.proofs.Arrived.{IsAt, and_false, at_place, is_at-true, other_sum, still}
 use Rattle.activation.proofs.AtNode.{right_low, right_wide, same_node}
 use Rattle.activation.proofs.Matching.{left_matches, matching_same, others_match, right_matches}
+
+-- ---- what a line reports
+
+-- where each token is kept under its code, those of a terminal are kept under its number
+pub tells : (nodes : List Node) (s : Stored) (line : Line) → line.told.items ≡ lasts_of nodes line.entries.items
+    → ((n c : ℕ) (side : Side) (t : List ℕ) → IsFiled line n c side t → c ≡ code_of (held_of s) nodes n side t) → TellsOfLasts nodes line
+tells nodes s line told filed = record {
+  tasks = told;
+  filed = λ n c k x t at is some. filed n c Left t some ∙ (ap (λ o. fold mixed n (kept_at (held_of s) o Left t)) at ∙ ap (λ d. fold mixed n (kept_codes (held_of s) d x.joins Left t)) is);
+}
 
 module _ (nodes : List Node) (s : Stored) (x : Task) (fits : TaskFits nodes s x) (old new : Line) (counts : IsCounted nodes s old) (e : Effect) (effect : IsEffect nodes s old x e)
     (sums : (n : ℕ) (side : Side) (t : List ℕ) → sum_in new n side t ≡ after (sum_in old) x n side t) where
@@ -136,7 +146,7 @@ module _ (nodes : List Node) (s : Stored) (x : Task) (fits : TaskFits nodes s x)
       → IsCounted nodes s new
   counted_after small numbers filed told = record {
     fit = fits_after;
-    told = told;
+    told = tells nodes s new told (λ n c side t some. code_after n c side t (filed n c side t some));
     counts = λ n y t at negated some. numbers n t some ∙ (by n y t at negated some x.side refl ∙ over_new n y t at negated some);
     filed = λ n c side t some. code_after n c side t (filed n c side t some);
   }
@@ -162,7 +172,7 @@ pub counted_same : (nodes : List Node) (s : Stored) (old new : Line) → IsCount
     → ((n : ℕ) (t : List ℕ) → blockers_in new n t ≡ blockers_in old n t) → KeepsCodes old new
     → new.told.items ≡ old.told.items → new.entries.items ≡ old.entries.items → IsCounted nodes s new
 counted_same nodes s old new counts same numbers codes told entries = record {
-  told = told ∙ counts.told ∙ ap (lasts_of nodes) (sym entries);
+  told = tells nodes s new (told ∙ counts.told.tasks ∙ ap (lasts_of nodes) (sym entries)) (λ n c side t some. counts.filed n c side t (codes n c side t some));
   fit = λ n side t some. counts.fit n side t (λ z. some (same n side t ∙ z));
   counts = λ n y t at negated some.
       numbers n t
@@ -176,7 +186,7 @@ pub told_after : (nodes : List Node) (x : Task) (node : Node) → slice_get node
     → new.told.items ≡ old.told.items ++ cond b (x ∷ []) [] → new.entries.items ≡ old.entries.items ++ record { task = x; children = kids } ∷ [] → new.told.items ≡ lasts_of nodes new.entries.items
 told_after nodes x node at b is old counts new kids told entries =
     told
-    ∙ (ap₂ (λ xs c. xs ++ cond c (x ∷ []) []) counts.told (is ∙ sym (ap (λ o. option_map_or (λ (n : Node). is_terminal n.kind) o false) at))
+    ∙ (ap₂ (λ xs c. xs ++ cond c (x ∷ []) []) counts.told.tasks (is ∙ sym (ap (λ o. option_map_or (λ (n : Node). is_terminal n.kind) o false) at))
     ∙ (sym (filter-append (is_last nodes) (map (λ e. e.task) old.entries.items) (x ∷ []))
     ∙ (ap (filter (is_last nodes)) (sym (map-append (λ (e : Entry). e.task) old.entries.items (record { task = x; children = kids } ∷ [])))
     ∙ ap (lasts_of nodes) (sym entries))))

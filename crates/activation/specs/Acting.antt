@@ -2,6 +2,7 @@
 use Rattle.std.specs.Prelude.{◌≡◌, ◌≢◌, ℕ, ◌+◌, ◌-◌, ◌^◌, ◌<◌, ◌&&◌, ℤ, pos, neg_ℤ, ◌+ℤ◌, Bool, true, false, List, [], ◌∷◌, ◌++◌, bytes_eq, filter, length, map, slice_get, Some, IsSome, All, if◌then◌else◌}
 use Rattle.std.specs.Option.{option_map_or}
 use Rattle.work_store.specs.Stored.{Stored, held_of}
+use Rattle.net_base.specs.declared.nodes.Kind.TheVariants.{Terminal}
 use Rattle.net_base.specs.declared.nodes.Node.{Node}
 use Rattle.net_base.specs.declared.tasks.Side.{Side}
 use Rattle.net_base.specs.declared.tasks.Side.TheVariants.{Left, Right}
@@ -10,13 +11,11 @@ use Rattle.net_base.specs.Sound.{is_negated, is_terminal, width}
 use Rattle.net_base.specs.Tokens.{Elements, count_with}
 use Rattle.token_line.specs.declared.line.Entry.{Entry}
 use Rattle.token_line.specs.declared.line.Line.{Line}
-use Rattle.token_line.specs.declared.memory.CodeMemory.{CodeMemory}
 use Rattle.token_line.specs.Bags.{Bag, after, are_same_sides, standing_at}
 use Rattle.token_line.specs.Held.{Agrees, Fits, TaskFits}
 use Rattle.token_line.specs.Lawful.{IsLawful, out_at}
 use Rattle.token_line.specs.Lines.{IsFiled, blockers_in, sum_in}
 use Rattle.token_line.specs.Numbers.{code_of}
-use Rattle.token_line.specs.inner.Pairs.{ArePairs}
 use Rattle.activation.specs.inner.Effects.{Effect}
 use Rattle.activation.specs.inner.Putting.{Put, changes}
 
@@ -35,9 +34,11 @@ is_last nodes x = option_map_or (λ n. is_terminal n.kind) (slice_get nodes x.no
 abbrev pub lasts_of : List Node → List Entry → List Task
 lasts_of nodes es = filter (is_last nodes) (map (λ e. e.task) es)
 
--- the line reports exactly the tasks that were for terminals
-abbrev pub TellsOfLasts : List Node → Line → Type 0
-TellsOfLasts nodes line = line.told.items ≡ lasts_of nodes line.entries.items
+-- the line reports exactly the tasks that were for terminals, and keeps each token of a terminal under the terminal's
+-- number
+pub record TellsOfLasts (nodes : List Node) (line : Line) : Type 0 where
+  pub tasks : line.told.items ≡ lasts_of nodes line.entries.items
+  pub filed : (n c k : ℕ) (x : Node) (t : List ℕ) → slice_get nodes n ≡ Some x → x.kind ≡ Terminal k → IsFiled line n c Left t → c ≡ n
 
 -- Each token of the line whose sum is not 0 fits, and the line keeps it under its code. With each left token of a
 -- negated node or a group the line keeps the number of right tokens, by effective count, that match it. It reports
@@ -80,11 +81,6 @@ pub record IsEffect (nodes : List Node) (s : Stored) (line : Line) (x : Task) (e
       → e.blocks ≡ (is_negated node.kind && (are_same_sides Right x.side && changes (sum_in line x.node x.side x.token) x.plus))
   pub room : e.blocks ≡ true → x.plus ≡ true → (t : List ℕ) → IsFiled line x.node (code_of (held_of s) nodes x.node x.side x.token) Left t
       → blockers_in line x.node t < 2 ^ 64 - 1
-
--- no token is kept twice on one side, and none is kept with a sum of 0
-pub record AreKept (m : CodeMemory) : Type 0 where
-  pub left : ArePairs m.left
-  pub right : ArePairs m.right
 
 -- ---- what a task does
 

@@ -7,20 +7,22 @@ ghost use Rattle.net_base.specs.Tokens.{goes_with};
 ghost use Rattle.net_base.specs.declared.tasks.Side.{Side};
 ghost use Rattle.net_base.specs.declared.tasks.Side.TheVariants.{Left};
 ghost use Rattle.token_line.specs.Held.{TaskFits};
+ghost use Rattle.token_line.specs.inner.Codes.{pairs_of, tokens_of};
 ghost use Rattle.token_line.specs.Lines.{IsFiled, KeepsCodes, blockers_in, sum_in};
 ghost use Rattle.token_line.specs.Numbers.{code_of};
 ghost use Rattle.token_line.specs.Sums.{counted};
 ghost use Rattle.activation.specs.Acting.{Acts, IsCounted};
 ghost use Rattle.activation.specs.inner.Children.{Grows};
 ghost use Rattle.activation.specs.inner.Negating.{is_matched};
+ghost use Rattle.activation.specs.inner.Putting.{other_side};
 
-use crate::effects::{do_at, tags_are_small, tokens_are_kept};
+use crate::effects::{do_at, partners_are_kept, tags_are_small};
 use net_base::net::Net;
 use net_base::nodes::{Kind, Node};
-use net_base::tasks::Task;
+use net_base::tasks::{Side, Task};
 use ops_base::memory::OutOfMemory;
 use std::alloc::Global;
-use token_line::{GhostTasks, Line, code_of};
+use token_line::{CodeMemory, GhostTasks, Line, Tokens, code_of};
 use work_store::Store;
 
 /// The node of the task.
@@ -42,6 +44,18 @@ fn is_told(node: &Node) -> bool
     match node.kind {
         Kind::Terminal { .. } => true,
         Kind::Join | Kind::Negated | Kind::Group { .. } => false,
+    }
+}
+
+/// The tokens of the other side of the task's node, if it has some in this memory.
+#[inline(always)]
+fn partners_of<'a>(memory: Option<&'a CodeMemory>, task: &Task) -> Option<&'a Tokens>
+    ensures { pairs_of (option_copied result) ≡ tokens_of (option_copied memory.entry) task.now.node (other_side task.now.side) }
+{
+    let found = memory?;
+    match task.side {
+        Side::Left => found.tokens(task.node, Side::Right),
+        Side::Right => found.tokens(task.node, Side::Left),
     }
 }
 
@@ -102,9 +116,10 @@ fn attempt(
     let node = node_of(net, store, task);
     let before = out.len();
     let (spot, memory) = line.find(task.node, code, task.side, &task.token);
-    tokens_are_kept(memory);
+    let partners = partners_of(memory, task);
+    partners_are_kept(partners);
     tags_are_small(store);
-    let done = do_at(alloc, store, node, memory, spot.kept(), task, out)?;
+    let done = do_at(alloc, store, node, partners, spot.kept(), task, out)?;
     let children = GhostTasks::since(out, before);
     line.add_at(alloc, &spot, task, children, done.blockers, is_told(node))?;
     count_blockers(net, store, line, node, task, code, done.blocks);

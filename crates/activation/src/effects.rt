@@ -1,16 +1,15 @@
 //! What a task does at its node, by the kind of the node.
 ghost use Rattle.std.specs.Prelude.{◌≡◌, ◌<◌, ◌==◌, ◌&&◌, ◌^◌, IfOk, IsSome, OnOk, false, pos, true, ℕ, ◌≤◌, vec_capacity};
-ghost use Rattle.std.specs.Option.{ForSome, option_copied, option_map_or};
+ghost use Rattle.std.specs.Option.{option_copied, option_map_or};
 ghost use Rattle.work_store.specs.Stored.{held_of};
 ghost use Rattle.net_base.specs.Sound.{is_negated};
 ghost use Rattle.net_base.specs.declared.tasks.Side.TheVariants.{Right};
-ghost use Rattle.token_line.specs.inner.Codes.{tokens_of};
-ghost use Rattle.token_line.specs.inner.Pairs.{cell_of};
-ghost use Rattle.activation.specs.Acting.{AreKept};
+ghost use Rattle.token_line.specs.inner.Codes.{pairs_of};
+ghost use Rattle.token_line.specs.inner.Pairs.{ArePairs};
 ghost use Rattle.activation.specs.inner.Children.{Grows, targets};
 ghost use Rattle.activation.specs.inner.Effects.{IsGiven, effect_at, join_effect, right_effect};
 ghost use Rattle.activation.specs.inner.Negating.{all_have_room, put_once};
-ghost use Rattle.activation.specs.inner.Putting.{changes, left_entries};
+ghost use Rattle.activation.specs.inner.Putting.{changes};
 
 use crate::children::{Below, push_to_each};
 use crate::negating::{blockers_for, give_by_flip};
@@ -19,7 +18,7 @@ use net_base::nodes::{Kind, Node};
 use net_base::tasks::{Side, Task};
 use ops_base::memory::OutOfMemory;
 use std::alloc::Global;
-use token_line::{CodeMemory, TokenCount};
+use token_line::{TokenCount, Tokens};
 use work_store::Store;
 
 /// What remains to be counted on the line after a task's children have been made.
@@ -33,13 +32,12 @@ pub(crate) struct Done {
     pub(crate) blocks: bool,
 }
 
-/// Reads both sides only to learn what their contracts promise about their tokens.
-pub(crate) fn tokens_are_kept(memory: Option<&CodeMemory>)
-    ensures { ForSome (option_copied memory.entry) AreKept }
+/// Reads the partners only to learn what their contract promises: none is there twice, and none has a sum of 0.
+pub(crate) fn partners_are_kept(partners: Option<&Tokens>)
+    ensures { ArePairs (pairs_of (option_copied partners.entry)) }
 {
-    if let Some(memory) = memory {
-        let _left = memory.left();
-        let _right = memory.right();
+    if let Some(partners) = partners {
+        let _partners = partners.len();
     }
 }
 
@@ -78,19 +76,19 @@ fn at_join(
     alloc: Global,
     store: &Store,
     node: &Node,
-    memory: Option<&CodeMemory>,
+    partners: Option<&Tokens>,
     task: &Task,
     moves: bool,
     out: &mut Vec<Task>,
 ) -> Result<Done, OutOfMemory>
-    ensures ok { IfOk result (λ d. IsGiven (targets node.now) (join_effect node.now.joins (held_of store.now) (option_copied memory.entry) task.now moves) out.old.items out.new.items d) }
+    ensures ok { IfOk result (λ d. IsGiven (targets node.now) (join_effect node.now.joins (held_of store.now) (pairs_of (option_copied partners.entry)) task.now moves) out.old.items out.new.items d) }
     ensures grown { Grows out.old.items out.new.items }
     ensures capacity { vec_capacity out.old ≤ vec_capacity out.new }
 {
     if moves {
         let below = below(node, task.plus);
         let tests = node.joins.as_slice();
-        give_by_join(alloc, store, tests, memory, task, below, out)?;
+        give_by_join(alloc, store, tests, partners, task, below, out)?;
     }
     Ok(Done {
         blockers: 0,
@@ -128,19 +126,19 @@ fn at_right(
     alloc: Global,
     store: &Store,
     node: &Node,
-    memory: Option<&CodeMemory>,
+    partners: Option<&Tokens>,
     task: &Task,
     moves: bool,
     out: &mut Vec<Task>,
 ) -> Result<Done, OutOfMemory>
-    ensures ok { IfOk result (λ d. IsGiven (targets node.now) (right_effect node.now (held_of store.now) (option_copied memory.entry) task.now moves) out.old.items out.new.items d) }
-    ensures room { OnOk result (moves ≡ true → all_have_room task.now.plus (left_entries (option_copied memory.entry)) ≡ true) }
+    ensures ok { IfOk result (λ d. IsGiven (targets node.now) (right_effect node.now (held_of store.now) (pairs_of (option_copied partners.entry)) task.now moves) out.old.items out.new.items d) }
+    ensures room { OnOk result (moves ≡ true → all_have_room task.now.plus (pairs_of (option_copied partners.entry)) ≡ true) }
     ensures grown { Grows out.old.items out.new.items }
     ensures capacity { vec_capacity out.old ≤ vec_capacity out.new }
 {
     if moves {
         let below = below(node, !task.plus);
-        give_by_flip(alloc, store, node, memory, task, below, out)?;
+        give_by_flip(alloc, store, node, partners, task, below, out)?;
     }
     Ok(Done {
         blockers: 0,
@@ -148,33 +146,32 @@ fn at_right(
     })
 }
 
-/// What the task does at its node, given the node's memory on the line and what is kept of the task's token. Its
-/// children are appended to `out`; at a terminal there are none. If memory runs out, some children may have been
+/// What the task does at its node, given what is kept of its token, and the token's partners: the tokens of the other
+/// side that have its code. Its children are appended to `out`; at a terminal there are none. If memory runs out, some children may have been
 /// added.
 pub(crate) fn do_at(
     alloc: Global,
     store: &Store,
     node: &Node,
-    memory: Option<&CodeMemory>,
+    partners: Option<&Tokens>,
     kept: Option<TokenCount>,
     task: &Task,
     out: &mut Vec<Task>,
 ) -> Result<Done, OutOfMemory>
-    requires { kept ≡ cell_of (tokens_of (option_copied memory) task.now.side) task.now.token }
-    ensures ok { IfOk result (λ d. IsGiven (targets node.now) (effect_at node.now (held_of store.now) (option_copied memory.entry) task.now (changes (option_map_or (λ c. c.sum) kept (pos 0)) task.now.plus)) out.old.items out.new.items d) }
-    ensures room { OnOk result (is_negated node.now.kind ≡ true → task.now.side ≡ Right → changes (option_map_or (λ c. c.sum) kept (pos 0)) task.now.plus ≡ true → all_have_room task.now.plus (left_entries (option_copied memory.entry)) ≡ true) }
+    ensures ok { IfOk result (λ d. IsGiven (targets node.now) (effect_at node.now (held_of store.now) kept (pairs_of (option_copied partners.entry)) task.now (changes (option_map_or (λ c. c.sum) kept (pos 0)) task.now.plus)) out.old.items out.new.items d) }
+    ensures room { OnOk result (is_negated node.now.kind ≡ true → task.now.side ≡ Right → changes (option_map_or (λ c. c.sum) kept (pos 0)) task.now.plus ≡ true → all_have_room task.now.plus (pairs_of (option_copied partners.entry)) ≡ true) }
     ensures grown { Grows out.old.items out.new.items }
     ensures capacity { vec_capacity out.old ≤ vec_capacity out.new }
 {
     let moves = moves(kept, task);
     match node.kind {
-        Kind::Join => at_join(alloc, store, node, memory, task, moves, out),
+        Kind::Join => at_join(alloc, store, node, partners, task, moves, out),
         Kind::Negated | Kind::Group { .. } => match task.side {
             Side::Left => {
-                let blockers = blockers_for(store, node, memory, kept, &task.token)?;
+                let blockers = blockers_for(store, node, partners, kept, &task.token)?;
                 at_left(alloc, node, task, moves, blockers, out)
             }
-            Side::Right => at_right(alloc, store, node, memory, task, moves, out),
+            Side::Right => at_right(alloc, store, node, partners, task, moves, out),
         },
         Kind::Terminal { .. } => Ok(Done {
             blockers: 0,

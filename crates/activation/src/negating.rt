@@ -2,13 +2,13 @@
 //! the tokens of the task's line. A right token matches the left tokens that it goes with: at a group, the one that
 //! it covers.
 ghost use Rattle.std.specs.Prelude.{◌≡◌, ◌+◌, ◌==◌, ◌&&◌, ◌++◌, IfOk, OnOk, if◌then◌else◌, true, ◌≤◌, vec_capacity};
-ghost use Rattle.std.specs.Option.{option_copied, option_map_or};
+ghost use Rattle.std.specs.Option.{option_copied};
 ghost use Rattle.work_store.specs.Stored.{held_of};
 ghost use Rattle.net_base.specs.Tokens.{goes_with};
 ghost use Rattle.token_line.specs.Bags.{standing};
+ghost use Rattle.token_line.specs.inner.Codes.{pairs_of};
 ghost use Rattle.activation.specs.inner.Children.{Grows, children_of, targets_of};
-ghost use Rattle.activation.specs.inner.Negating.{all_have_room, before_flip, has_room, number_matching, put_flipped};
-ghost use Rattle.activation.specs.inner.Putting.{left_entries, right_entries};
+ghost use Rattle.activation.specs.inner.Negating.{all_have_room, before_flip, blockers_for, has_room, number_matching, put_flipped};
 
 use crate::children::{Below, push_if, standing};
 use net_base::nodes::Node;
@@ -16,7 +16,7 @@ use net_base::tags::Tags;
 use net_base::tasks::Task;
 use ops_base::memory::OutOfMemory;
 use std::alloc::Global;
-use token_line::{CodeMemory, TokenCount, Tokens, goes_with};
+use token_line::{TokenCount, Tokens, goes_with};
 use work_store::Store;
 
 /// Adds two counts. A sum that does not fit is reported as out of memory.
@@ -60,16 +60,16 @@ fn number_matching(
 pub(crate) fn blockers_for(
     store: &Store,
     node: &Node,
-    memory: Option<&CodeMemory>,
+    right: Option<&Tokens>,
     kept: Option<TokenCount>,
     token: &Tags,
 ) -> Result<u64, OutOfMemory>
-    ensures { IfOk result (λ n. n ≡ option_map_or (λ c. c.blockers) kept (number_matching node.now (held_of store.now) token.now (right_entries (option_copied memory.entry)))) }
+    ensures { IfOk result (λ n. n ≡ blockers_for node.now (held_of store.now) kept (pairs_of (option_copied right.entry)) token.now) }
 {
     match kept {
         Some(cell) => Ok(cell.blockers),
-        None => match memory {
-            Some(memory) => number_matching(store, node, token, memory.right()),
+        None => match right {
+            Some(right) => number_matching(store, node, token, right),
             None => Ok(0),
         },
     }
@@ -139,18 +139,18 @@ pub(crate) fn give_by_flip(
     alloc: Global,
     store: &Store,
     node: &Node,
-    memory: Option<&CodeMemory>,
+    left: Option<&Tokens>,
     task: &Task,
     below: Below,
     out: &mut Vec<Task>,
 ) -> Result<(), OutOfMemory>
-    ensures ok { OnOk result (out.new.items ≡ out.old.items ++ children_of (targets_of below.entry.children.now below.entry.rights.now) below.entry.plus (put_flipped node.now (held_of store.now) task.now.token task.now.plus (left_entries (option_copied memory.entry)))) }
-    ensures room { OnOk result (all_have_room task.now.plus (left_entries (option_copied memory.entry)) ≡ true) }
+    ensures ok { OnOk result (out.new.items ≡ out.old.items ++ children_of (targets_of below.entry.children.now below.entry.rights.now) below.entry.plus (put_flipped node.now (held_of store.now) task.now.token task.now.plus (pairs_of (option_copied left.entry)))) }
+    ensures room { OnOk result (all_have_room task.now.plus (pairs_of (option_copied left.entry)) ≡ true) }
     ensures grown { Grows out.old.items out.new.items }
     ensures capacity { vec_capacity out.old ≤ vec_capacity out.new }
 {
-    match memory {
-        Some(memory) => give_flipped(alloc, store, node, task, memory.left(), below, out),
+    match left {
+        Some(left) => give_flipped(alloc, store, node, task, left, below, out),
         None => Ok(()),
     }
 }

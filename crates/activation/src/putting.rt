@@ -2,6 +2,7 @@
 ghost use Rattle.std.specs.Prelude.{◌≡◌, ◌++◌, OnOk, ◌≤◌, vec_capacity};
 ghost use Rattle.std.specs.Option.{option_copied};
 ghost use Rattle.work_store.specs.Stored.{held_of};
+ghost use Rattle.token_line.specs.inner.Codes.{pairs_of};
 ghost use Rattle.activation.specs.inner.Children.{Grows, children_of, targets_of};
 ghost use Rattle.activation.specs.inner.Putting.{changes, put_for, put_for_left, put_for_right};
 
@@ -10,7 +11,7 @@ use net_base::nodes::JoinTest;
 use net_base::tasks::{Side, Task};
 use ops_base::memory::OutOfMemory;
 use std::alloc::Global;
-use token_line::{CodeMemory, Tokens, joins, joins_element, tag_at};
+use token_line::{Tokens, joins, joins_element, tag_at};
 use work_store::Store;
 
 /// Whether one more insert or delete changes the effective count of a token with this sum. A delete that comes before
@@ -68,40 +69,37 @@ fn give_for_right(
     Ok(())
 }
 
-/// The tasks that a join creates for a task that changes the effective count of its token. If memory runs out, some
-/// may have been added.
+/// The tasks that a join creates for a task that changes the effective count of its token, given the tokens of the
+/// other side. If memory runs out, some may have been added.
 pub(crate) fn give_by_join(
     alloc: Global,
     store: &Store,
     tests: &[JoinTest],
-    memory: Option<&CodeMemory>,
+    partners: Option<&Tokens>,
     task: &Task,
     below: Below,
     out: &mut Vec<Task>,
 ) -> Result<(), OutOfMemory>
-    ensures ok { OnOk result (out.new.items ≡ out.old.items ++ children_of (targets_of below.entry.children.now below.entry.rights.now) below.entry.plus (put_for tests.now (held_of store.now) (option_copied memory.entry) task.now.side task.now.token)) }
+    ensures ok { OnOk result (out.new.items ≡ out.old.items ++ children_of (targets_of below.entry.children.now below.entry.rights.now) below.entry.plus (put_for tests.now (held_of store.now) (pairs_of (option_copied partners.entry)) task.now.side task.now.token)) }
     ensures grown { Grows out.old.items out.new.items }
     ensures capacity { vec_capacity out.old ≤ vec_capacity out.new }
 {
-    let Some(memory) = memory else {
+    let Some(partners) = partners else {
         return Ok(());
     };
     match task.side {
-        Side::Left => {
-            let right = memory.right();
-            give_for_left(
-                alloc,
-                store,
-                tests,
-                task.token.as_slice(),
-                right,
-                below,
-                out,
-            )
-        }
+        Side::Left => give_for_left(
+            alloc,
+            store,
+            tests,
+            task.token.as_slice(),
+            partners,
+            below,
+            out,
+        ),
         Side::Right => {
             let tag = tag_at(task.token.as_slice(), 0);
-            give_for_right(alloc, store, tests, tag, memory.left(), below, out)
+            give_for_right(alloc, store, tests, tag, partners, below, out)
         }
     }
 }

@@ -11,9 +11,11 @@ use Rattle.net_base.specs.declared.tasks.Side.TheVariants.{Left, Right}
 use Rattle.net_base.specs.Sound.{IsSound}
 use Rattle.token_line.specs.declared.line.Line.{Line}
 use Rattle.token_line.specs.Held.{Fits, is_wide}
-use Rattle.token_line.specs.Numbers.{mixed, codes_at, kept_at}
+use Rattle.token_line.specs.Lines.{IsFiled}
+use Rattle.token_line.specs.Numbers.{code_of, mixed, codes_at, kept_at}
 use Rattle.token_line.proofs.Filed.{filed_stands}
 use Rattle.activation.specs.Acting.{IsCounted, lasts_of}
+use Rattle.activation.proofs.Recounted.{tells}
 use Rattle.step_core.specs.Phases.{sums_over, now}
 use Rattle.step_core.specs.Worlds.{placed, seen}
 use Rattle.step_core.proofs.Resting.{hold_moves}
@@ -38,11 +40,14 @@ module _ (A : List Alpha) (N C : List Node) (sound : IsSound A N) (s : Stored) w
   counted_old l empty h = record {
     fit = λ n side t some. fits_old n side t (h.fit n side t some);
     counts = λ n x t at negated some. h.counts n x t (sym (old_at N C n (h.fit n Left t some).within) ∙ at) negated some;
-    filed = λ n c side t has.
-        let f = h.fit n side t (filed_stands l n c side t has) in
-        h.filed n c side t has ∙ sym (ap (λ o. fold mixed n (kept_at (held_of s) o side t)) (old_at N C n f.within));
-    told = h.told ∙ (ap (lasts_of N) empty ∙ sym (ap (lasts_of (N ++ C)) empty));
+    filed = filed;
+    told = tells (N ++ C) s l (h.told.tasks ∙ (ap (lasts_of N) empty ∙ sym (ap (lasts_of (N ++ C)) empty))) filed;
   }
+    where
+      filed : (n c : ℕ) (side : Side) (t : List ℕ) → IsFiled l n c side t → c ≡ code_of (held_of s) (N ++ C) n side t
+      filed n c side t has =
+          let f = h.fit n side t (filed_stands l n c side t has) in
+          h.filed n c side t has ∙ sym (ap (λ o. fold mixed n (kept_at (held_of s) o side t)) (old_at N C n f.within))
 
   place_old : (wm : List Element) (lines n : ℕ) (side : Side) (t : List ℕ) → sums_over wm A N n side t ≢ pos 0 → placed (held_of s) N lines n side t ≡ placed (held_of s) (N ++ C) lines n side t
   place_old wm lines n side t some = by (nat_le (length N) n) refl

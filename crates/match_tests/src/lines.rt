@@ -55,8 +55,9 @@ fn bring_all(alloc: Global, line: &mut Line, plus: bool, bound: u64) -> Result<(
 
 // how many tokens are kept under a code, if any are
 fn kept(line: &Line, code: u64) -> Option<usize> {
-    let memory = line.memory(3, code)?;
-    Some(memory.left().len())
+    let memory = line.memory(code)?;
+    let tokens = memory.tokens(3, Side::Left)?;
+    Some(tokens.len())
 }
 
 #[test]

@@ -50,10 +50,16 @@ fn partners_of(net: &Net, store: &Store, lines: &[Line], task: &Task) -> usize
     requires { 1 ≤ length lines.now }
 {
     let place = place_of(net, store, task, lines.len());
-    match (lines[place.line].memory(task.node, place.code), task.side) {
-        (Some(memory), Side::Left) => memory.right().len(),
-        (Some(memory), Side::Right) => memory.left().len(),
-        (None, _) => 0,
+    let side = match task.side {
+        Side::Left => Side::Right,
+        Side::Right => Side::Left,
+    };
+    match lines[place.line].memory(place.code) {
+        Some(memory) => match memory.tokens(task.node, side) {
+            Some(partners) => partners.len(),
+            None => 0,
+        },
+        None => 0,
     }
 }
 

@@ -74,4 +74,4 @@ counted_kept nodes s [] [] are all = All-nil (IsCounted nodes s)
 counted_kept nodes s [] (y ∷ ys) are all = absurd are
 counted_kept nodes s (x ∷ xs) [] are all = absurd are
 counted_kept nodes s (x ∷ xs) (y ∷ ys) are all =
-    All-cons (IsCounted nodes s) y ys (counted_same nodes s x y (All-head (IsCounted nodes s) x xs all) are.0.sums are.0.blockers are.0.filed (are.0.told nodes (All-head (IsCounted nodes s) x xs all).told)) (counted_kept nodes s xs ys are.1 (All-tail (IsCounted nodes s) x xs all))
+    All-cons (IsCounted nodes s) y ys (counted_same nodes s x y (All-head (IsCounted nodes s) x xs all) are.0.sums are.0.blockers are.0.filed (are.0.told nodes (All-head (IsCounted nodes s) x xs all).told.tasks)) (counted_kept nodes s xs ys are.1 (All-tail (IsCounted nodes s) x xs all))

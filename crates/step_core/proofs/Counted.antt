@@ -13,9 +13,11 @@ use Rattle.token_line.specs.declared.line.Line.{Line}
 use Rattle.token_line.specs.Held.{Fits}
 use Rattle.token_line.specs.Lawful.{giver_of}
 use Rattle.token_line.proofs.Fitting.{fits_at, left_is_wide}
-use Rattle.token_line.specs.Lines.{KeepsCodes, blockers_in, sum_in}
+use Rattle.token_line.specs.Lines.{IsFiled, KeepsCodes, blockers_in, sum_in}
+use Rattle.token_line.specs.Numbers.{code_of}
 use Rattle.token_line.proofs.Filed.{filed_stands}
 use Rattle.activation.specs.Acting.{IsCounted, lasts_of, matching}
+use Rattle.activation.proofs.Recounted.{tells}
 use Rattle.step_core.specs.Machine.{root_part}
 use Rattle.step_core.specs.inner.Starts.{IsBegun}
 use Rattle.step_core.proofs.Adding.{bag_ext}
@@ -25,7 +27,7 @@ use Rattle.step_core.proofs.RootTokens.{IsRootToken, root_code, root_token}
 pub counted_same : (nodes : List Node) (s : Stored) (old new : Line) → IsCounted nodes s old → ((n : ℕ) (side : Side) (t : List ℕ) → sum_in new n side t ≡ sum_in old n side t)
     → ((n : ℕ) (t : List ℕ) → blockers_in new n t ≡ blockers_in old n t) → KeepsCodes old new → new.told.items ≡ lasts_of nodes new.entries.items → IsCounted nodes s new
 counted_same nodes s old new counted same numbers codes told = record {
-  told = told;
+  told = tells nodes s new told (λ n c side t some. counted.filed n c side t (codes n c side t some));
   fit = λ n side t some. counted.fit n side t (λ z. some (same n side t ∙ z));
   counts = λ n x t at negated some.
       numbers n t
@@ -47,10 +49,10 @@ joins_in (Some x) = is_join x.kind
 -- a line of the start, which has only what the root gives, and that at joins
 pub counted_begun : (alphas : List Alpha) (nodes : List Node) → IsSound alphas nodes → (s : Stored) (lines bound i : ℕ) (l : Line) → IsBegun nodes lines bound i l → IsCounted nodes s l
 counted_begun alphas nodes sound s lines bound i l begun = record {
-  told = begun.bare.1 ∙ ap (lasts_of nodes) (sym begun.bare.0);
+  told = tells nodes s l (begun.bare.1 ∙ ap (lasts_of nodes) (sym begun.bare.0)) filed;
   fit = λ n side t some. root_fits nodes s n side t (token n side t some);
   counts = λ n x t at negated some. no_negated x.kind negated (at_join n x t at some);
-  filed = λ n c side t some. begun.filed n c side t some ∙ sym (root_code alphas nodes sound n side t (token n side t (filed_stands l n c side t some)) (held_of s));
+  filed = filed;
 }
   where
     given : (n : ℕ) (side : Side) (t : List ℕ) (b : Bool) → cond b (pos (root_part (giver_of nodes n side) t)) (pos 0) ≢ pos 0 → pos (root_part (giver_of nodes n side) t) ≢ pos 0
@@ -59,6 +61,9 @@ counted_begun alphas nodes sound s lines bound i l begun = record {
 
     token : (n : ℕ) (side : Side) (t : List ℕ) → sum_in l n side t ≢ pos 0 → IsRootToken nodes n side t
     token n side t some = root_token alphas nodes sound n side t (given n side t (nat_lt n bound && (n % lines == i)) (λ z. some (begun.sums n side t ∙ z)))
+
+    filed : (n c : ℕ) (side : Side) (t : List ℕ) → IsFiled l n c side t → c ≡ code_of (held_of s) nodes n side t
+    filed n c side t some = begun.filed n c side t some ∙ sym (root_code alphas nodes sound n side t (token n side t (filed_stands l n c side t some)) (held_of s))
 
     at_join : (n : ℕ) (x : Node) (t : List ℕ) → slice_get nodes n ≡ Some x → sum_in l n Left t ≢ pos 0 → is_join x.kind ≡ true
     at_join n x t at some = let is = token n Left t some in ap joins_in (sym at ∙ is.at) ∙ is.join

@@ -1,5 +1,5 @@
 -- What moved is what the tasks that came to terminals moved.
-use Rattle.std.proofs.Common.{◌≡◌, ◌++◌, Bool, true, false, List, [], ◌∷◌, Option, Some, None, cond, refl, ap, sym, ◌∙◌, slice_get}
+use Rattle.std.proofs.Common.{◌≡◌, ◌++◌, Bool, true, false, List, [], ◌∷◌, ℕ, ◌≢◌, Option, Some, None, IsSome, cond, refl, ap, sym, subst, ◌∙◌, slice_get}
 use Rattle.std.specs.List.{filter}
 use Rattle.std.specs.Option.{option_map_or}
 use Rattle.std.specs.Prelude.{flat_map}
@@ -11,6 +11,8 @@ use Rattle.net_base.specs.declared.tasks.Side.TheVariants.{Left, Right}
 use Rattle.net_base.specs.declared.tasks.Task.{Task}
 use Rattle.net_base.specs.Sound.{is_terminal}
 use Rattle.token_line.specs.declared.line.Line.{Line}
+use Rattle.token_line.specs.declared.tokens.TokenCount.{TokenCount}
+use Rattle.token_line.specs.Lines.{IsAlone, filed_in}
 use Rattle.activation.specs.Acting.{TellsOfLasts, is_last}
 use Rattle.step_core.specs.Machine.{Seen}
 use Rattle.step_core.specs.Phases.{tasks_of}
@@ -43,4 +45,25 @@ module _ (nodes : List Node) (l : Seen) where
       by false e ih = ih ∙ ap (λ ms. ms ++ flat_map (moved_by nodes l) xs) (sym (moves_nothing x e))
 
 pub told_moved : (nodes : List Node) (line : Line) → TellsOfLasts nodes line → flat_map (moved_by nodes (seen line)) line.told.items ≡ moved_on nodes (seen line)
-told_moved nodes line tells = ap (flat_map (moved_by nodes (seen line))) tells ∙ lasts_moved nodes (seen line) (tasks_of line.entries.items)
+told_moved nodes line tells = ap (flat_map (moved_by nodes (seen line))) tells.tasks ∙ lasts_moved nodes (seen line) (tasks_of line.entries.items)
+
+-- ---- the code of a token of a terminal
+
+terminal_of : (o : Option Node) (d : Side) (k : ℕ) → rule_in o d ≡ Some k → (x : Node) × ((o ≡ Some x) × (x.kind ≡ Terminal k))
+terminal_of None d k e = absurd (cc)
+terminal_of (Some x) Right k e = absurd (cc)
+terminal_of (Some x) Left k e = by x.kind refl e
+  where
+    by : (q : Kind) → x.kind ≡ q → rule_in (Some (record x { kind = q })) Left ≡ Some k → (y : Node) × ((Some x ≡ Some y) × (y.kind ≡ Terminal k))
+    by Join is e = absurd (cc)
+    by Negated is e = absurd (cc)
+    by (Group giver width members) is e = absurd (cc)
+    by (Terminal rule) is e = let same : rule ≡ k = cc in (x, (refl, is ∙ ap Terminal same))
+
+pub last_alone : (nodes : List Node) (line : Line) → TellsOfLasts nodes line → (x : Task) (k : ℕ) → rule_in (slice_get nodes x.node) x.side ≡ Some k → IsAlone line x.node x.node Left x.token
+last_alone nodes line tells x k is d ne = by (filed_in line x.node d Left x.token) refl
+  where
+    by : (o : Option TokenCount) → filed_in line x.node d Left x.token ≡ o → o ≡ None
+    by None q = refl
+    by (Some cell) q = let last = terminal_of (slice_get nodes x.node) x.side k is in
+        absurd (ne (tells.filed x.node d k last.0 x.token last.1.0 last.1.1 (subst IsSome (sym q) refl)))

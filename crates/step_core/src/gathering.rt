@@ -81,11 +81,12 @@ fn look_at(
     task: &Task,
     moved: &mut Vec<Moved>,
 ) -> Result<(), OutOfMemory>
+    requires { TellsOfLasts net.now.nodes line.now }
     ensures { OnOk result (moved.new.items ≡ moved.old.items ++ moved_by net.now.nodes (seen line.now) task.now) }
 {
     if let Some(rule) = rule_of(net, task) {
         let inst = inst_of(alloc, rule, &task.token)?;
-        let sum = line.left_sum(task.node, &task.token);
+        let sum = line.left_sum(task.node, task.node as u64, &task.token);
         let plus = task.plus;
         moved.push(Moved { inst, plus, sum })?;
     }

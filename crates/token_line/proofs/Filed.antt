@@ -9,13 +9,12 @@ use Rattle.net_base.specs.declared.tasks.Side.TheVariants.{Left}
 use Rattle.net_base.specs.declared.tasks.Task.{Task}
 use Rattle.token_line.specs.declared.line.Line.{Line}
 use Rattle.token_line.specs.declared.memory.CodeMemory.{CodeMemory}
-use Rattle.token_line.specs.declared.memories.NodeMemory.{NodeMemory}
 use Rattle.token_line.specs.declared.tokens.TokenCount.{TokenCount}
 use Rattle.token_line.specs.Bags.{are_same_sides, is_at}
-use Rattle.token_line.specs.inner.Codes.{AreApart, HaveSums, cell_among, cell_blocked, cell_under, codes_among, filed_among, first_some, memory_of, tokens_of}
+use Rattle.token_line.specs.inner.Codes.{AreApart, HaveSums, cell_among, cell_blocked, filed_among, first_some, tokens_of}
 use Rattle.token_line.specs.Lines.{IsFiled, filed_in, sum_in}
 use Rattle.token_line.specs.inner.Pairs.{cell_of}
-use Rattle.token_line.specs.Sums.{blocked, blockers_kept, counted, side_of, sum_kept}
+use Rattle.token_line.specs.Sums.{blocked, blockers_kept, counted, sum_kept}
 use Rattle.token_line.proofs.LineLemmas.{at_task}
 
 -- ---- the first code that has something
@@ -51,50 +50,46 @@ module _ {X : Type 0} (f : ℕ → Option X) where
 
 -- ---- the tokens of one side of a node
 
-module _ (s : Side) (t : List ℕ) where
-  abbrev filed : Option NodeMemory → ℕ → Option TokenCount
-  filed o c = cell_of (tokens_of (memory_of o c) s) t
+module _ (n : ℕ) (s : Side) (t : List ℕ) where
+  abbrev filed : List (ℕ × CodeMemory) → ℕ → Option TokenCount
+  filed m c = filed_among m n c s t
 
-  abbrev first : Option NodeMemory → Option TokenCount
-  first o = first_some (filed o) (codes_among o)
+  abbrev first : List (ℕ × CodeMemory) → Option TokenCount
+  first m = cell_among m n s t
 
   -- nothing is kept under any code where nothing is under those that are there
-  all_none : (o : Option NodeMemory) → first o ≡ None → (c : ℕ) → filed o c ≡ None
-  all_none None none c = refl
-  all_none (Some m) none c =
-      let both = none_head (filed (Some m)) (filed (Some m) m.code) (first_some (filed (Some m)) (keys_of m.others)) none in
-      by both.0 (none_keyed (filed (Some m)) m.others both.1 c) (c == m.code) refl
+  all_none : (m : List (ℕ × CodeMemory)) → first m ≡ None → (c : ℕ) → filed m c ≡ None
+  all_none m none c = by (none_keyed (filed m) m none c)
     where
-      by : filed (Some m) m.code ≡ None → (lookup (nat_eq c) m.others ≡ None) ⊎ (filed (Some m) c ≡ None) → (b : Bool) → (c == m.code) ≡ b → filed (Some m) c ≡ None
-      by own others true q = ap (filed (Some m)) (eqb-true c m.code q) ∙ own
-      by own (inl none) false q = ap (λ b. cell_of (tokens_of (cond b (Some m.first) (lookup (nat_eq c) m.others)) s) t) q ∙ ap (λ p. cell_of (tokens_of p s) t) none
-      by own (inr none) false q = none
+      by : (lookup (nat_eq c) m ≡ None) ⊎ (filed m c ≡ None) → filed m c ≡ None
+      by (inl missing) = ap (λ o. cell_of (tokens_of o n s) t) missing
+      by (inr own) = own
 
   -- a token that is kept under no other code
-  pub alone_first : (o : Option NodeMemory) (c : ℕ) → ((d : ℕ) → d ≢ c → filed o d ≡ None) → first o ≡ filed o c
-  alone_first o c alone = by (first o) refl
+  pub alone_first : (m : List (ℕ × CodeMemory)) (c : ℕ) → ((d : ℕ) → d ≢ c → filed m d ≡ None) → first m ≡ filed m c
+  alone_first m c alone = by (first m) refl
     where
-      by : (p : Option TokenCount) → first o ≡ p → p ≡ filed o c
-      by None none = sym (all_none o none c)
-      by (Some x) is = let own = some_first (filed o) (codes_among o) x is in at own.0 own.1 (cases_eq own.0 c)
+      by : (p : Option TokenCount) → first m ≡ p → p ≡ filed m c
+      by None none = sym (all_none m none c)
+      by (Some x) is = let own = some_first (filed m) (keys_of m) x is in at own.0 own.1 (cases_eq own.0 c)
         where
-          at : (d : ℕ) → filed o d ≡ Some x → (d ≡ c) ⊎ (d ≢ c) → Some x ≡ filed o c
-          at d is (inl e) = sym is ∙ ap (filed o) e
+          at : (d : ℕ) → filed m d ≡ Some x → (d ≡ c) ⊎ (d ≢ c) → Some x ≡ filed m c
+          at d is (inl e) = sym is ∙ ap (filed m) e
           at d is (inr ne) = absurd (let none = alone d ne in cc)
 
   some_is : {X : Type 0} (o : Option X) (x : X) → o ≡ Some x → IsSome o
   some_is o x e = subst IsSome (sym e) refl
 
   -- each code that a token has is the one at which it is found, where there is but one
-  pub others_none : (o : Option NodeMemory) (c : ℕ) → ((c d : ℕ) → IsSome (filed o c) → IsSome (filed o d) → c ≡ d) → IsSome (filed o c) → (d : ℕ) → d ≢ c → filed o d ≡ None
-  others_none o c apart some d ne = by (filed o d) refl
+  pub others_none : (m : List (ℕ × CodeMemory)) (c : ℕ) → ((c d : ℕ) → IsSome (filed m c) → IsSome (filed m d) → c ≡ d) → IsSome (filed m c) → (d : ℕ) → d ≢ c → filed m d ≡ None
+  others_none m c apart some d ne = by (filed m d) refl
     where
-      by : (p : Option TokenCount) → filed o d ≡ p → p ≡ None
+      by : (p : Option TokenCount) → filed m d ≡ p → p ≡ None
       by None q = refl
-      by (Some x) q = absurd (ne (apart d c (some_is (filed o d) x q) some))
+      by (Some x) q = absurd (ne (apart d c (some_is (filed m d) x q) some))
 
   -- where each code has what follows from what it had, so has the token
-  module _ (old new : Option NodeMemory) (change : ℕ → Option TokenCount → Option TokenCount) (none : (c : ℕ) → change c None ≡ None) (is : (c : ℕ) → filed new c ≡ change c (filed old c))
+  module _ (old new : List (ℕ × CodeMemory)) (change : ℕ → Option TokenCount → Option TokenCount) (none : (c : ℕ) → change c None ≡ None) (is : (c : ℕ) → filed new c ≡ change c (filed old c))
       (apart : (c d : ℕ) → IsSome (filed old c) → IsSome (filed old d) → c ≡ d) where
     record Changed (c : ℕ) : Type 0 where
       pub before : first old ≡ filed old c
@@ -110,29 +105,14 @@ module _ (s : Side) (t : List ℕ) where
         by : (p : Option TokenCount) → first old ≡ p → (c : ℕ) × Changed c
         by None q = (0, record { before = alone_first old 0 (λ d ne. all_none old q d); after = alone_first new 0 (λ d ne. moved d (all_none old q d)) })
         by (Some x) q =
-            let own = some_first (filed old) (codes_among old) x q in
+            let own = some_first (filed old) (keys_of old) x q in
             let others = others_none old own.0 apart (some_is (filed old own.0) x own.1) in
             (own.0, record { before = alone_first old own.0 others; after = alone_first new own.0 (λ d ne. moved d (others d ne)) })
 
     pub changes_first : (c : ℕ) × ((first old ≡ filed old c) × (first new ≡ change c (filed old c)))
     changes_first = (changed.0, (changed.1.before, changed.1.after ∙ is changed.0))
 
--- ---- a node's first memory
-
-pub fresh_cells : (m : NodeMemory) (code : ℕ) (first : CodeMemory) → m.code ≡ code → m.first ≡ first → m.others ≡ []
-    → (c : ℕ) (s : Side) (t : List ℕ) → cell_under m c s t ≡ cond (c == code) (cell_of (side_of first s) t) None
-fresh_cells m code first own is none c s t = ap (λ k. cell_of (tokens_of (cond (c == k) (Some m.first) (lookup (nat_eq c) m.others)) s) t) own ∙ by (c == code)
-  where
-    by : (b : Bool) → cell_of (tokens_of (cond b (Some m.first) (lookup (nat_eq c) m.others)) s) t ≡ cond b (cell_of (side_of first s) t) None
-    by true = ap (λ x. cell_of (side_of x s) t) is
-    by false = ap (λ o. cell_of (tokens_of (lookup (nat_eq c) o) s) t) none
-
 -- ---- tests
-
-pub swapped : (a b x : Bool) → (a && (b && x)) ≡ (b && (a && x))
-swapped true b x = refl
-swapped false true x = refl
-swapped false false x = refl
 
 same_code : (c : ℕ) → (c == c) ≡ true
 same_code c = (Decides-eqb c c).1 refl
@@ -153,20 +133,20 @@ nothing o none some = true≢false (sym some ∙ ap is_some none)
 
 -- ---- all memories of a line
 
-module _ (old : List (ℕ × NodeMemory)) where
+module _ (old : List (ℕ × CodeMemory)) where
   pub alone_cell : (n c : ℕ) (s : Side) (t : List ℕ) → ((d : ℕ) → d ≢ c → filed_among old n d s t ≡ None) → cell_among old n s t ≡ filed_among old n c s t
-  alone_cell n c s t alone = alone_first s t (lookup (nat_eq n) old) c alone
+  alone_cell n c s t alone = alone_first n s t old c alone
 
   module _ (apart : AreApart old) where
     -- of a token that is kept under a code
     pub filed_cell : (n c : ℕ) (s : Side) (t : List ℕ) → IsSome (filed_among old n c s t) → cell_among old n s t ≡ filed_among old n c s t
-    filed_cell n c s t some = alone_cell n c s t (others_none s t (lookup (nat_eq n) old) c (λ a b. apart n a b s t) some)
+    filed_cell n c s t some = alone_cell n c s t (others_none n s t old c (λ a b. apart n a b s t) some)
 
     -- where the same is kept under each code
-    module _ (new : List (ℕ × NodeMemory)) (same : (n c : ℕ) (s : Side) (t : List ℕ) → filed_among new n c s t ≡ filed_among old n c s t) where
+    module _ (new : List (ℕ × CodeMemory)) (same : (n c : ℕ) (s : Side) (t : List ℕ) → filed_among new n c s t ≡ filed_among old n c s t) where
       pub same_cells : (n : ℕ) (s : Side) (t : List ℕ) → cell_among new n s t ≡ cell_among old n s t
       same_cells n s t =
-          let both = changes_first s t (lookup (nat_eq n) old) (lookup (nat_eq n) new) (λ c o. o) (λ c. refl) (λ c. same n c s t) (λ a b. apart n a b s t) in
+          let both = changes_first n s t old new (λ c o. o) (λ c. refl) (λ c. same n c s t) (λ a b. apart n a b s t) in
           both.1.1 ∙ sym both.1.0
 
       pub same_codes : (n c : ℕ) (s : Side) (t : List ℕ) → IsSome (filed_among new n c s t) → IsSome (filed_among old n c s t)
@@ -190,12 +170,12 @@ kept_under line n s t ne = by (cell_among line.memories n s t) refl
     by : (o : Option TokenCount) → cell_among line.memories n s t ≡ o → (c : ℕ) × IsFiled line n c s t
     by None q = absurd (ne (ap sum_kept q))
     by (Some k) q =
-        let own = some_first (λ c. filed_in line n c s t) (codes_among (lookup (nat_eq n) line.memories)) k q in
+        let own = some_first (λ c. filed_in line n c s t) (keys_of line.memories) k q in
         (own.0, subst IsSome (sym own.1) refl)
 
 -- ---- once something else is kept of the token of a task
 
-module _ (old new : List (ℕ × NodeMemory)) (apart : AreApart old) (x : Task) (code : ℕ) (cell : Option TokenCount)
+module _ (old new : List (ℕ × CodeMemory)) (apart : AreApart old) (x : Task) (code : ℕ) (cell : Option TokenCount)
     (alone : (d : ℕ) → d ≢ code → filed_among old x.node d x.side x.token ≡ None)
     (written : (n c : ℕ) (s : Side) (t : List ℕ) → filed_among new n c s t ≡ cond ((c == code) && is_at n s t x) cell (filed_among old n c s t)) where
   elsewhere : (n c : ℕ) (s : Side) (t : List ℕ) → is_at n s t x ≡ false → filed_among new n c s t ≡ filed_among old n c s t
@@ -215,7 +195,7 @@ module _ (old new : List (ℕ × NodeMemory)) (apart : AreApart old) (x : Task) 
           alone_cell new n code s t (other_none n s t q)
           ∙ (written n code s t ∙ ap (λ b. cond b cell (filed_among old n code s t)) (ap (λ b. b && is_at n s t x) (same_code code) ∙ q))
       by false q =
-          let both = changes_first s t (lookup (nat_eq n) old) (lookup (nat_eq n) new) (λ c o. o) (λ c. refl) (λ c. elsewhere n c s t q) (λ a b. apart n a b s t) in
+          let both = changes_first n s t old new (λ c o. o) (λ c. refl) (λ c. elsewhere n c s t q) (λ a b. apart n a b s t) in
           both.1.1 ∙ sym both.1.0
 
   own_code : (n c : ℕ) (s : Side) (t : List ℕ) → is_at n s t x ≡ true → IsSome (filed_among new n c s t) → c ≡ code
@@ -239,7 +219,7 @@ module _ (old new : List (ℕ × NodeMemory)) (apart : AreApart old) (x : Task) 
       by true q = inr (own_code n c s t q some, refl)
       by false q = inl (subst IsSome (elsewhere n c s t q) some)
 
-pub put_sums : (old new : List (ℕ × NodeMemory)) (x : Task) (code : ℕ) (cell : Option TokenCount) → IfSome cell (λ c. c.sum ≢ pos 0) → HaveSums old
+pub put_sums : (old new : List (ℕ × CodeMemory)) (x : Task) (code : ℕ) (cell : Option TokenCount) → IfSome cell (λ c. c.sum ≢ pos 0) → HaveSums old
     → ((n c : ℕ) (s : Side) (t : List ℕ) → filed_among new n c s t ≡ cond ((c == code) && is_at n s t x) cell (filed_among old n c s t)) → HaveSums new
 put_sums old new x code cell has sums written n c s t some =
     subst (λ o. sum_kept o ≢ pos 0) (sym (written n c s t)) (by ((c == code) && is_at n s t x) (subst IsSome (written n c s t) some))
@@ -278,14 +258,14 @@ module _ (plus : Bool) where
   unmatched true (Some c) = refl
   unmatched false o = refl
 
-  module _ (old new : List (ℕ × NodeMemory)) (apart : AreApart old) (node code : ℕ) (matches : List ℕ → Bool)
-      (written : (n c : ℕ) (s : Side) (t : List ℕ) → filed_among new n c s t ≡ cell_blocked ((n == node) && ((c == code) && are_same_sides s Left)) (matches t) plus (filed_among old n c s t)) where
+  module _ (old new : List (ℕ × CodeMemory)) (apart : AreApart old) (node code : ℕ) (matches : List ℕ → Bool)
+      (written : (n c : ℕ) (s : Side) (t : List ℕ) → filed_among new n c s t ≡ cell_blocked ((c == code) && ((n == node) && are_same_sides s Left)) (matches t) plus (filed_among old n c s t)) where
     module _ (n : ℕ) (s : Side) (t : List ℕ) where
       abbrev here : ℕ → Bool
-      here c = (n == node) && ((c == code) && are_same_sides s Left)
+      here c = (c == code) && ((n == node) && are_same_sides s Left)
 
       moved : (c : ℕ) × ((cell_among old n s t ≡ filed_among old n c s t) × (cell_among new n s t ≡ cell_blocked (here c) (matches t) plus (filed_among old n c s t)))
-      moved = changes_first s t (lookup (nat_eq n) old) (lookup (nat_eq n) new) (λ c o. cell_blocked (here c) (matches t) plus o) (λ c. none_blocked (here c) (matches t)) (λ c. written n c s t) (λ a b. apart n a b s t)
+      moved = changes_first n s t old new (λ c o. cell_blocked (here c) (matches t) plus o) (λ c. none_blocked (here c) (matches t)) (λ c. written n c s t) (λ a b. apart n a b s t)
 
       pub block_sums : sum_kept (cell_among new n s t) ≡ sum_kept (cell_among old n s t)
       block_sums = ap sum_kept moved.1.1 ∙ (same_sum (here moved.0) (matches t) (filed_among old n moved.0 s t) ∙ ap sum_kept (sym moved.1.0))
@@ -310,7 +290,7 @@ module _ (plus : Bool) where
         → blockers_kept (cell_among new n Left t) ≡ cond ((n == node) && matches t) (counted plus (blockers_kept (cell_among old n Left t))) (blockers_kept (cell_among old n Left t))
     block_numbers filed n t ne =
         ap blockers_kept both.1.1
-        ∙ (by (n == node) refl (matches t) refl
+        ∙ (by (n == node) refl (matches t) refl (both.0 == code) refl
         ∙ ap (λ o. cond ((n == node) && matches t) (counted plus (blockers_kept o)) (blockers_kept o)) (sym both.1.0))
       where
         both : (c : ℕ) × ((cell_among old n Left t ≡ filed_among old n c Left t) × (cell_among new n Left t ≡ cell_blocked (here n Left t c) (matches t) plus (filed_among old n c Left t)))
@@ -327,15 +307,11 @@ module _ (plus : Bool) where
             apart n both.0 code Left t (subst IsSome (sym kept.1) refl)
             (subst (λ k. IsSome (filed_among old k code Left t)) (sym e) (filed t (subst (λ k. sum_kept (cell_among old k Left t) ≢ pos 0) e stood) m))
 
-        counts : (b : Bool) → b ≡ true → blockers_kept (cell_blocked b true plus (filed_among old n both.0 Left t)) ≡ counted plus (blockers_kept (filed_among old n both.0 Left t))
-        counts true q = ap (λ o. blockers_kept (option_map (blocked true plus) o)) kept.1 ∙ ap (λ o. counted plus (blockers_kept o)) (sym kept.1)
-        counts false q = absurd (cc)
-
-        by : (a : Bool) → (n == node) ≡ a → (b : Bool) → matches t ≡ b
-            → blockers_kept (cell_blocked (a && ((both.0 == code) && true)) b plus (filed_among old n both.0 Left t))
+        by : (a : Bool) → (n == node) ≡ a → (b : Bool) → matches t ≡ b → (d : Bool) → (both.0 == code) ≡ d
+            → blockers_kept (cell_blocked (d && (a && true)) b plus (filed_among old n both.0 Left t))
             ≡ cond (a && b) (counted plus (blockers_kept (filed_among old n both.0 Left t))) (blockers_kept (filed_among old n both.0 Left t))
-        by false p b q = refl
-        by true p false q = unmatched ((both.0 == code) && true) (filed_among old n both.0 Left t)
-        by true p true q =
-            let e : (both.0 == code) ≡ true = (Decides-eqb both.0 code).1 (own (eqb-true n node p) q) in
-            counts ((both.0 == code) && true) (ap (λ b. b && true) e)
+        by false p b q false r = refl
+        by false p b q true r = refl
+        by true p false q d r = unmatched (d && true) (filed_among old n both.0 Left t)
+        by true p true q true r = ap (λ o. blockers_kept (option_map (blocked true plus) o)) kept.1 ∙ ap (λ o. counted plus (blockers_kept o)) (sym kept.1)
+        by true p true q false r = absurd (true≢false (sym ((Decides-eqb both.0 code).1 (own (eqb-true n node p) q)) ∙ r))

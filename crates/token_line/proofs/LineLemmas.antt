@@ -1,6 +1,5 @@
 -- Values by their nodes or codes once one of them was written, and what follows for sums and blockers.
 use Rattle.std.proofs.Common.{◌≡◌, ◌≢◌, ℕ, pos, ◌+ℤ◌, Bool, true, false, cond, ◌&&◌, ◌==◌, List, [], nat_eq, bytes_eq, Option, Some, None, IfSome, Result, Ok, Err, OnErr, refl, sym, ap, subst, ◌∙◌, arith}
-use Rattle.std.specs.Option.{option_map}
 use Rattle.std.proofs.lemmas.Bool.{eqb-true}
 use Rattle.std.proofs.lemmas.Int.{ints}
 use Rattle.std.proofs.lemmas.Slice.Eq.{bytes_eq-Decides}
@@ -10,9 +9,9 @@ use Rattle.net_base.specs.declared.tasks.Task.{Task}
 use Rattle.token_line.specs.declared.memory.CodeMemory.{CodeMemory}
 use Rattle.token_line.specs.declared.tokens.TokenCount.{TokenCount}
 use Rattle.token_line.specs.Bags.{are_same_sides, is_at, sign, sign_at}
-use Rattle.token_line.specs.inner.Codes.{cell_blocked}
+use Rattle.token_line.specs.inner.Codes.{cell_blocked, cell_under, tokens_among}
 use Rattle.token_line.specs.inner.Pairs.{cell_of}
-use Rattle.token_line.specs.Sums.{blocked, blockers_kept, side_of, sum_kept}
+use Rattle.token_line.specs.Sums.{blockers_kept, side_of, sum_kept}
 
 -- ---- values by their nodes or codes
 
@@ -76,10 +75,22 @@ pub none_blocked : (here matches plus : Bool) → None ≡ cell_blocked here mat
 none_blocked true matches plus = refl
 none_blocked false matches plus = refl
 
-pub side_blocked : (old new : CodeMemory) (matches : List ℕ → Bool) (plus : Bool) → ((t : List ℕ) → cell_of new.left t ≡ option_map (blocked (matches t) plus) (cell_of old.left t)) → new.right ≡ old.right
-    → (s : Side) (t : List ℕ) → cell_of (side_of new s) t ≡ cell_blocked (are_same_sides s Left) (matches t) plus (cell_of (side_of old s) t)
-side_blocked old new matches plus left right Left t = left t
-side_blocked old new matches plus left right Right t = ap (λ kept. cell_of kept t) right
+pub side_blocked : (old new : CodeMemory) (node : ℕ) (matches : List ℕ → Bool) (plus : Bool)
+    → ((n : ℕ) (t : List ℕ) → cell_of (tokens_among new.left n) t ≡ cell_blocked (n == node) (matches t) plus (cell_of (tokens_among old.left n) t)) → new.right ≡ old.right
+    → (n : ℕ) (s : Side) (t : List ℕ) → cell_under new n s t ≡ cell_blocked ((n == node) && are_same_sides s Left) (matches t) plus (cell_under old n s t)
+side_blocked old new node matches plus left right n Left t =
+    left n t ∙ ap (λ b. cell_blocked b (matches t) plus (cell_under old n Left t)) (sym (with_true (n == node)))
+  where
+    with_true : (b : Bool) → (b && true) ≡ b
+    with_true true = refl
+    with_true false = refl
+side_blocked old new node matches plus left right n Right t =
+    ap (λ nodes. cell_of (tokens_among nodes n) t) right
+    ∙ ap (λ b. cell_blocked b (matches t) plus (cell_under old n Right t)) (sym (with_false (n == node)))
+  where
+    with_false : (b : Bool) → (b && false) ≡ false
+    with_false true = refl
+    with_false false = refl
 
 -- ---- sums and blockers
 

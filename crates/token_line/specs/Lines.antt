@@ -10,13 +10,18 @@ use Rattle.token_line.specs.declared.tokens.TokenCount.{TokenCount}
 use Rattle.token_line.specs.declared.line.Line.{Line}
 use Rattle.token_line.specs.declared.spot.TokenPlace.{TokenPlace}
 use Rattle.token_line.specs.Bags.{Bag, is_at}
-use Rattle.token_line.specs.inner.Codes.{cell_among, filed_among, memory_of}
+use Rattle.token_line.specs.inner.Codes.{cell_among, filed_among, tokens_of}
+use Rattle.token_line.specs.inner.Pairs.{Pairs}
 use Rattle.token_line.specs.inner.Spots.{IsSpotAmong}
 use Rattle.token_line.specs.Sums.{blockers_kept, sum_kept}
 
--- the memory of a node's tokens with this code, or none if it has none
-abbrev pub memory_at : Line → ℕ → ℕ → Option CodeMemory
-memory_at line n c = memory_of (lookup (nat_eq n) line.memories) c
+-- the memory of the tokens with this code, or none if there are none
+abbrev pub memory_under : Line → ℕ → Option CodeMemory
+memory_under line c = lookup (nat_eq c) line.memories
+
+-- the tokens of one side of a node with this code
+abbrev pub tokens_at : Line → ℕ → ℕ → Side → Pairs
+tokens_at line n c s = tokens_of (memory_under line c) n s
 
 -- what is kept of a token of one side of a node under a code
 abbrev pub filed_in : Line → ℕ → ℕ → Side → List ℕ → Option TokenCount

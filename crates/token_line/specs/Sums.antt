@@ -32,7 +32,7 @@ counted plus k = if plus then k + 1 else k - 1
 abbrev pub blocked : Bool → Bool → TokenCount → TokenCount
 blocked matches plus c = record { sum = c.sum; blockers = if matches then counted plus c.blockers else c.blockers }
 
--- the tokens of one side of the node that this memory belongs to
-abbrev pub side_of : CodeMemory → Side → Pairs
+-- the tokens of one side with one code, by node
+abbrev pub side_of : CodeMemory → Side → List (ℕ × Pairs)
 side_of m Left = m.left
 side_of m Right = m.right

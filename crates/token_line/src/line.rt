@@ -6,16 +6,16 @@ ghost use Rattle.net_base.specs.declared.tasks.Side.{Side};
 ghost use Rattle.net_base.specs.declared.tasks.Side.TheVariants.{Left, Right};
 ghost use Rattle.net_base.specs.Tokens.{goes_with};
 ghost use Rattle.token_line.specs.Bags.{after, are_same_sides, is_at, sign};
-ghost use Rattle.token_line.specs.inner.Codes.{AreApart, HaveSums, cell_among, cell_blocked, filed_among};
+ghost use Rattle.token_line.specs.inner.Codes.{AreApart, HaveSums, cell_blocked, filed_among};
 ghost use Rattle.token_line.specs.inner.Spots.{IsSpotAmong};
 ghost use Rattle.token_line.specs.Sums.{blockers_kept, counted, sum_kept};
 
 use crate::ghost_task::GhostTask;
 use crate::ghost_tasks::GhostTasks;
 use crate::memory::CodeMemory;
-use crate::node_place::NodePlace;
+use crate::memory_place::MemoryPlace;
 use crate::small_map::SmallMap;
-use crate::spot::{TokenPlace, spot_in, sum_of};
+use crate::spot::{TokenPlace, spot_in};
 use crate::tokens::TokenCount;
 use net_base::nodes::Node;
 use net_base::tags::Tags;
@@ -24,9 +24,9 @@ use ops_base::memory::OutOfMemory;
 use std::alloc::Global;
 use work_store::Store;
 
-/// At most this many nodes of a line are kept as a list. A pair in it is 16 bytes wide: scanning all of them waits
+/// At most this many codes of a line are kept as a list. A pair in it is 16 bytes wide: scanning all of them waits
 /// less for memory than hashing one.
-const FEW_NODES: usize = 64;
+const FEW_CODES: usize = 64;
 
 /// A task that was performed, and the tasks that it created. Only contracts can see both: an entry takes no bytes.
 #[derive(Drop)]
@@ -35,12 +35,12 @@ pub struct Entry {
     pub children: GhostTasks,
 }
 
-/// The tokens on one line, by node and code, and what was done there since the phase began, in order. Of the latter
+/// The tokens on one line, by code and node, and what was done there since the phase began, in order. Of the latter
 /// it keeps only the tasks that are to be reported.
 #[derive(Drop)]
 pub struct Line {
     number: usize,
-    memories: SmallMap<usize, NodePlace>,
+    memories: SmallMap<u64, MemoryPlace>,
     entries: Vec<Entry>,
     told: Vec<Task>,
     ghost apart: { AreApart memories },
@@ -87,9 +87,8 @@ fn tell(told: &mut Vec<Task>, alloc: Global, task: &Task, is_told: bool) -> Resu
     Ok(())
 }
 
-/// Removes a node from the line if it has no token left. The node is checked only if one of its tokens has just been
-/// removed.
-fn drop_if_empty(memories: &mut SmallMap<usize, NodePlace>, place: usize, has_left: bool)
+/// Removes a code from the line if no token with it is left. It is checked only if one of these has just been removed.
+fn drop_if_empty(memories: &mut SmallMap<u64, MemoryPlace>, place: usize, has_left: bool)
     requires { place < length memories.old }
     ensures { (n c : ℕ) (s : Side) (t : List ℕ) → filed_among memories.new n c s t ≡ filed_among memories.old n c s t }
 {
@@ -97,8 +96,8 @@ fn drop_if_empty(memories: &mut SmallMap<usize, NodePlace>, place: usize, has_le
         return;
     }
     let _apart = memories.len();
-    let (_node, of_node) = memories.pair(place);
-    if of_node.is_empty() {
+    let (_code, memory) = memories.pair(place);
+    if memory.is_empty() {
         memories.remove(place);
     }
 }
@@ -106,7 +105,7 @@ fn drop_if_empty(memories: &mut SmallMap<usize, NodePlace>, place: usize, has_le
 /// Replaces what is kept of the token at the spot, or stops keeping it. If memory runs out, nothing has changed.
 #[inline(always)]
 fn put(
-    memories: &mut SmallMap<usize, NodePlace>,
+    memories: &mut SmallMap<u64, MemoryPlace>,
     alloc: Global,
     spot: &TokenPlace,
     task: &Task,
@@ -118,15 +117,15 @@ fn put(
     ensures err { OnErr result ((n c : ℕ) (s : Side) (t : List ℕ) → filed_among memories.new n c s t ≡ filed_among memories.old n c s t) }
 {
     let _apart = memories.len();
-    match spot.node {
+    match spot.memory {
         Some(place) => {
             memories.value_mut(place).put(alloc, spot, task, cell)?;
             drop_if_empty(memories, place, cell.is_none());
         }
         None => {
             let place = memories.len();
-            let fresh = NodePlace::new(alloc, spot.code)?;
-            memories.push_within(alloc, FEW_NODES, task.node, fresh)?;
+            let fresh = MemoryPlace::new(alloc)?;
+            memories.push_within(alloc, FEW_CODES, spot.code, fresh)?;
             memories.value_mut(place).put(alloc, spot, task, cell)?;
         }
     }
@@ -136,7 +135,7 @@ fn put(
 /// The same, and reports the task if it is to be reported.
 #[inline(always)]
 fn put_and_tell(
-    memories: &mut SmallMap<usize, NodePlace>,
+    memories: &mut SmallMap<u64, MemoryPlace>,
     told: &mut Vec<Task>,
     alloc: Global,
     spot: &TokenPlace,
@@ -164,7 +163,7 @@ fn put_and_tell(
 
 /// Adds or removes one blocker at each left token of the node with this code that the right token goes with.
 fn block(
-    memories: &mut SmallMap<usize, NodePlace>,
+    memories: &mut SmallMap<u64, MemoryPlace>,
     store: &Store,
     of: &Node,
     node: usize,
@@ -173,18 +172,18 @@ fn block(
     plus: bool,
 )
     requires room { plus ≡ true → (t : List ℕ) → sum_kept (filed_among memories.old node code Left t) ≢ pos 0 → blockers_kept (filed_among memories.old node code Left t) < 2 ^ 64 - 1 }
-    ensures { (n c : ℕ) (s : Side) (t : List ℕ) → filed_among memories.new n c s t ≡ cell_blocked ((n == node) && ((c == code) && are_same_sides s Left)) (goes_with of.now.kind of.now.joins (held_of store.now) t right.now) plus (filed_among memories.old n c s t) }
+    ensures { (n c : ℕ) (s : Side) (t : List ℕ) → filed_among memories.new n c s t ≡ cell_blocked ((c == code) && ((n == node) && are_same_sides s Left)) (goes_with of.now.kind of.now.joins (held_of store.now) t right.now) plus (filed_among memories.old n c s t) }
 {
     let _apart = memories.len();
-    if let Some(place) = memories.find(&node) {
+    if let Some(place) = memories.find(&code) {
         memories
             .value_mut(place)
-            .block(store, of, code, right, plus);
+            .block(store, of, node, right, plus);
     }
 }
 
 impl Line {
-    ghost use Rattle.token_line.specs.Lines.{IsAlone, IsFiled, IsSpot, KeepsCodes, KeepsCodesBut, blockers_in, filed_in, memory_at, sum_in};
+    ghost use Rattle.token_line.specs.Lines.{IsAlone, IsFiled, IsSpot, KeepsCodes, KeepsCodesBut, blockers_in, filed_in, memory_under, sum_in};
 
     /// A line with no tokens and no entries. Takes no memory.
     pub fn new(alloc: Global, number: usize) -> Line
@@ -209,45 +208,29 @@ impl Line {
         self.number
     }
 
-    /// The tokens of a node with this code, or none if it has none. Takes no memory.
-    pub fn memory(&self, node: usize, code: u64) -> Option<&CodeMemory>
-        ensures { option_copied result ≡ memory_at self.now node code }
+    /// The tokens with this code, or none if there are none. Takes no memory.
+    pub fn memory(&self, code: u64) -> Option<&CodeMemory>
+        ensures { option_copied result ≡ memory_under self.now code }
     {
-        match self.memories.get(&node) {
-            Some(of_node) => of_node.memory(code),
+        match self.memories.get(&code) {
+            Some(of_code) => Some(of_code.memory()),
             None => None,
         }
     }
 
-    /// What is kept of a token of one side of a node, whatever its code.
-    fn cell(&self, node: usize, side: Side, token: &Tags) -> Option<TokenCount>
-        ensures { result ≡ cell_among self.now.memories node side token.now }
-    {
-        match self.memories.get(&node) {
-            Some(of_node) => of_node.cell(side, token),
-            None => None,
-        }
-    }
-
-    /// The sum of a left token of a node, or 0 if it is not kept. The line's nodes are scanned if they are few, and
-    /// hashed if they are many. The token is looked up as by `Tokens::find`, under one code after another: the tokens
-    /// of a terminal all have one code. Takes no memory.
-    pub fn left_sum(&self, node: usize, token: &Tags) -> i64
+    /// The sum of a left token of a node, or 0 if it is not kept, at the cost of `find`. The token has this code, if it
+    /// is kept: a token of a terminal has the number of the terminal. Takes no memory.
+    pub fn left_sum(&self, node: usize, code: u64, token: &Tags) -> i64
+        requires { IsAlone self.now node code Left token.now }
         ensures { result ≡ sum_in self.now node Left token.now }
     {
-        sum_of(self.cell(node, Side::Left, token))
-    }
-
-    /// The sum of a right token of a node, or 0 if it is not kept, at the cost of `left_sum`. Takes no memory.
-    pub fn right_sum(&self, node: usize, token: &Tags) -> i64
-        ensures { result ≡ sum_in self.now node Right token.now }
-    {
-        sum_of(self.cell(node, Side::Right, token))
+        let (spot, _memory) = self.find(node, code, Side::Left, token);
+        spot.sum()
     }
 
     /// The spot of a token of one side of a node among the tokens with its code, and the memory of these. It makes
-    /// one lookup of the node, one of the code if the node has several on the line, and one of the token. Each lookup
-    /// scans if there are few candidates, and hashes if there are many. Takes no memory.
+    /// one lookup of the code, one of the node among those with the code, and one of the token. Each lookup scans if
+    /// there are few candidates, and hashes if there are many. Takes no memory.
     #[inline(always)]
     pub fn find(
         &self,
@@ -258,14 +241,15 @@ impl Line {
     ) -> (TokenPlace, Option<&CodeMemory>)
         ensures spot { IsSpot self.now node side token.now result.0 }
         ensures code { result.0.code ≡ code }
-        ensures memory { option_copied result.1 ≡ memory_at self.now node code }
+        ensures memory { option_copied result.1 ≡ memory_under self.now code }
     {
-        match self.memories.find(&node) {
+        match self.memories.find(&code) {
             Some(place) => {
-                let memory = self.memories.pair(place).1.memory(code);
-                (spot_in(memory, Some(place), code, side, token), memory)
+                let memory = self.memories.pair(place).1.memory();
+                let spot = spot_in(memory, code, place, node, side, token);
+                (spot, Some(memory))
             }
-            None => (spot_in(None, None, code, side, token), None),
+            None => (TokenPlace::nowhere(code), None),
         }
     }
 

@@ -1,27 +1,28 @@
 //! Where a token is kept on a line.
-ghost use Rattle.std.specs.Prelude.{◌≡◌};
-ghost use Rattle.std.specs.Option.{option_copied};
-ghost use Rattle.token_line.specs.inner.Codes.{tokens_of};
+ghost use Rattle.std.specs.Prelude.{◌≡◌, None, Some, nat_eq, position};
+ghost use Rattle.std.specs.Map.{keys_of};
+ghost use Rattle.token_line.specs.inner.Codes.{tokens_among};
 ghost use Rattle.token_line.specs.inner.Pairs.{cell_of, place_of};
-ghost use Rattle.token_line.specs.Sums.{sum_kept};
+ghost use Rattle.token_line.specs.Sums.{side_of, sum_kept};
 
 use crate::memory::CodeMemory;
 use crate::tokens::TokenCount;
 use net_base::tags::Tags;
 use net_base::tasks::Side;
 
-/// Where a token is kept on a line: the place of its node, its code, its own place among the tokens with that code,
-/// and what is kept of it. It is no longer valid once the line has changed.
+/// Where a token is kept on a line: its code with the place of that, the place of its node among those with the code,
+/// its own place among the tokens of the node, and what is kept of it. It is no longer valid once the line has changed.
 #[derive(Clone, Copy)]
 pub struct TokenPlace {
-    pub(crate) node: Option<usize>,
     pub(crate) code: u64,
+    pub(crate) memory: Option<usize>,
+    pub(crate) node: Option<usize>,
     pub(crate) token: Option<usize>,
     pub(crate) kept: Option<TokenCount>,
 }
 
 /// The sum of a token, given what is kept of it, or 0 if nothing is.
-pub(crate) fn sum_of(kept: Option<TokenCount>) -> i64
+fn sum_of(kept: Option<TokenCount>) -> i64
     ensures { result ≡ sum_kept kept }
 {
     match kept {
@@ -44,34 +45,61 @@ impl TokenPlace {
     {
         self.kept
     }
+
+    /// The spot of a token whose code nothing has.
+    #[inline(always)]
+    pub(crate) fn nowhere(code: u64) -> TokenPlace
+        ensures code { result.code ≡ code }
+        ensures memory { result.memory ≡ None }
+        ensures node { result.node ≡ None }
+        ensures token { result.token ≡ None }
+        ensures kept { result.kept ≡ None }
+    {
+        TokenPlace {
+            code,
+            memory: None,
+            node: None,
+            token: None,
+            kept: None,
+        }
+    }
 }
 
-/// The spot of a token, given the place of its node and the memory of its code, if there are such.
+/// The spot of a token of one side of a node in the memory of its code, which has this place.
 #[inline(always)]
 pub(crate) fn spot_in(
-    memory: Option<&CodeMemory>,
-    node: Option<usize>,
+    memory: &CodeMemory,
     code: u64,
+    place: usize,
+    node: usize,
     side: Side,
     token: &Tags,
 ) -> TokenPlace
-    ensures node { result.node ≡ node }
     ensures code { result.code ≡ code }
-    ensures token { result.token ≡ place_of (tokens_of (option_copied memory.entry) side) token.now }
-    ensures kept { result.kept ≡ cell_of (tokens_of (option_copied memory.entry) side) token.now }
+    ensures memory { result.memory ≡ Some place }
+    ensures node { result.node ≡ position (nat_eq node) (keys_of (side_of memory.now side)) }
+    ensures token { result.token ≡ place_of (tokens_among (side_of memory.now side) node) token.now }
+    ensures kept { result.kept ≡ cell_of (tokens_among (side_of memory.now side) node) token.now }
 {
-    let (token, kept) = match memory {
-        Some(memory) => {
-            let tokens = memory.side(side);
+    let nodes = memory.side(side);
+    match nodes.find(&node) {
+        Some(at) => {
+            let (_node, tokens) = nodes.pair(at);
             let own = tokens.find(token);
-            (own, tokens.kept(token, own))
+            TokenPlace {
+                code,
+                memory: Some(place),
+                node: Some(at),
+                token: own,
+                kept: tokens.kept(token, own),
+            }
         }
-        None => (None, None),
-    };
-    TokenPlace {
-        node,
-        code,
-        token,
-        kept,
+        None => TokenPlace {
+            code,
+            memory: Some(place),
+            node: None,
+            token: None,
+            kept: None,
+        },
     }
 }

@@ -7,9 +7,8 @@ use Rattle.net_base.specs.declared.nodes.Node.{Node}
 use Rattle.net_base.specs.declared.tasks.Task.{Task}
 use Rattle.net_base.specs.Tokens.{Elements, goes_with}
 use Rattle.token_line.specs.declared.tokens.TokenCount.{TokenCount}
-use Rattle.token_line.specs.declared.memory.CodeMemory.{CodeMemory}
 use Rattle.token_line.specs.Bags.{standing}
-use Rattle.token_line.specs.inner.Pairs.{Pairs, cell_of}
+use Rattle.token_line.specs.inner.Pairs.{Pairs}
 use Rattle.activation.specs.inner.Putting.{Put, put_if}
 
 -- ---- the number of right tokens that match a left one
@@ -20,10 +19,9 @@ number_matching node elements t [] = 0
 number_matching node elements t (e ∷ right) =
     (if goes_with node.kind node.joins elements t e.0 then standing e.1.sum else 0) + number_matching node elements t right
 
--- the number that is kept with the left token or, if it is not kept, the number that match now
-abbrev pub blockers_for : Node → Elements → Option CodeMemory → List ℕ → ℕ
-blockers_for node elements None t = 0
-blockers_for node elements (Some m) t = option_map_or (λ c. c.blockers) (cell_of m.left t) (number_matching node elements t m.right)
+-- the number that is kept with the left token or, if it is not kept, the number of these that match it
+abbrev pub blockers_for : Node → Elements → Option TokenCount → Pairs → List ℕ → ℕ
+blockers_for node elements kept right t = option_map_or (λ c. c.blockers) kept (number_matching node elements t right)
 
 -- ---- what a negated node or a group puts out
 

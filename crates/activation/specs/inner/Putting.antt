@@ -5,7 +5,6 @@ use Rattle.net_base.specs.declared.nodes.JoinTest.{JoinTest}
 use Rattle.net_base.specs.declared.tasks.Side.{Side}
 use Rattle.net_base.specs.declared.tasks.Side.TheVariants.{Left, Right}
 use Rattle.net_base.specs.Tokens.{Elements, joins_hold}
-use Rattle.token_line.specs.declared.memory.CodeMemory.{CodeMemory}
 use Rattle.token_line.specs.Bags.{standing}
 use Rattle.token_line.specs.inner.Pairs.{Pairs}
 
@@ -27,15 +26,9 @@ changes (pos zero) false = false
 changes (pos (suc n)) false = true
 changes (negsuc n) false = false
 
--- ---- the tokens of a node; none if the node never had a token here
-
-abbrev pub left_entries : Option CodeMemory → Pairs
-left_entries None = []
-left_entries (Some m) = m.left
-
-abbrev pub right_entries : Option CodeMemory → Pairs
-right_entries None = []
-right_entries (Some m) = m.right
+abbrev pub other_side : Side → Side
+other_side Left = Right
+other_side Right = Left
 
 -- ---- what a join puts out
 
@@ -51,7 +44,8 @@ put_for_left tests elements t right = flat_map (λ e. put_if (joins_hold tests e
 abbrev pub put_for_right : List JoinTest → Elements → ℕ → Pairs → List Put
 put_for_right tests elements tag left = flat_map (λ e. put_if (joins_hold tests elements e.0 tag) (e.0 ++ tag ∷ []) e.1.sum) left
 
--- the same for a task that changes the effective count of its token, by the side of the token
-abbrev pub put_for : List JoinTest → Elements → Option CodeMemory → Side → List ℕ → List Put
-put_for tests elements m Left t = put_for_left tests elements t (right_entries m)
-put_for tests elements m Right t = put_for_right tests elements (slice_index t 0) (left_entries m)
+-- the same for a task that changes the effective count of its token, by the side of the token; its partners are the
+-- tokens of the other side
+abbrev pub put_for : List JoinTest → Elements → Pairs → Side → List ℕ → List Put
+put_for tests elements partners Left t = put_for_left tests elements t partners
+put_for tests elements partners Right t = put_for_right tests elements (slice_index t 0) partners

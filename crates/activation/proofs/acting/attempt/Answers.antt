@@ -9,6 +9,8 @@ use Rattle.token_line.specs.declared.line.Line.{Line}
 use Rattle.token_line.specs.declared.line.Entry.{Entry}
 use Rattle.token_line.specs.declared.tokens.TokenCount.{TokenCount}
 use Rattle.token_line.specs.Bags.{is_at}
+use Rattle.token_line.specs.inner.Codes.{pairs_of, tokens_of}
+use Rattle.token_line.specs.inner.Pairs.{ArePairs}
 use Rattle.token_line.specs.Lines.{IsAlone, IsFiled, KeepsCodesBut, blockers_in, filed_in, sum_in}
 use Rattle.token_line.specs.Numbers.{code_of}
 use Rattle.token_line.specs.Sums.{counted}
@@ -16,9 +18,9 @@ use Rattle.activation.specs.Acting.{lasts_of}
 use Rattle.activation.specs.inner.Children.{children_at, children_of, targets}
 use Rattle.activation.specs.inner.Effects.{Effect, effect_at}
 use Rattle.activation.specs.inner.Negating.{is_matched}
-use Rattle.activation.specs.inner.Putting.{changes}
+use Rattle.activation.specs.inner.Putting.{changes, other_side}
 use Rattle.activation.proofs.Acted.{acted}
-use Rattle.activation.proofs.AtNode.{Kept, is_alone}
+use Rattle.activation.proofs.AtNode.{is_alone}
 use Rattle.activation.proofs.EffectLemmas.{done_effect}
 use Rattle.activation.proofs.Growth.{drop_grown}
 use Rattle.activation.proofs.Recounted.{code_after, counted_after, counted_same, room_after, told_after}
@@ -48,11 +50,11 @@ count_blockers-requires-clause-room c = λ blocks more t has.
     let node = c.node_of-node.result.now in
     let old = c.args.line.now in
     let done = c.in_ok-done.ensures.ok in
-    let e : Effect = effect_at node (held_of s) (option_copied c.find.result.1) x (changes (option_map_or (λ (k : TokenCount). k.sum) c.kept.result (pos 0)) x.plus) in
+    let e : Effect = effect_at node (held_of s) c.kept.result (pairs_of (option_copied c.partners_of-partners.result)) x (changes (option_map_or (λ (k : TokenCount). k.sum) c.kept.result (pos 0)) x.plus) in
     let is =
     done_effect c.args.net.now.alphas nodes c.node_of-node.ensures.sound s old x c.requires.fits c.requires.counted node c.node_of-node.ensures.node
     (c.args.code) (sym c.requires.code)
-    (subst Kept c.find.ensures.memory c.tokens_are_kept.ensures) c.tags_are_small.ensures (option_copied c.find.result.1) c.find.ensures.memory c.kept.result
+    (subst ArePairs (c.partners_of-partners.ensures ∙ ap (λ k. tokens_of k x.node (other_side x.side)) c.find.ensures.memory) c.partners_are_kept.ensures) c.tags_are_small.ensures (pairs_of (option_copied c.partners_of-partners.result)) (c.partners_of-partners.ensures ∙ ap (λ k. tokens_of k x.node (other_side x.side)) c.find.ensures.memory) c.kept.result
     (c.kept.ensures ∙ (c.find.ensures.spot.kept ∙ ap (λ k. filed_in old x.node k x.side x.token) c.find.ensures.code))
     c.in_ok-done.ensures.room in
     room_after nodes s x c.requires.fits old c.requires.counted e is c.add_at.new.self
@@ -69,11 +71,11 @@ count_blockers-requires-clause-code c = λ blocks t some joined.
     let node = c.node_of-node.result.now in
     let old = c.args.line.now in
     let done = c.in_ok-done.ensures.ok in
-    let e : Effect = effect_at node (held_of s) (option_copied c.find.result.1) x (changes (option_map_or (λ (k : TokenCount). k.sum) c.kept.result (pos 0)) x.plus) in
+    let e : Effect = effect_at node (held_of s) c.kept.result (pairs_of (option_copied c.partners_of-partners.result)) x (changes (option_map_or (λ (k : TokenCount). k.sum) c.kept.result (pos 0)) x.plus) in
     let is =
     done_effect c.args.net.now.alphas nodes c.node_of-node.ensures.sound s old x c.requires.fits c.requires.counted node c.node_of-node.ensures.node
     (c.args.code) (sym c.requires.code)
-    (subst Kept c.find.ensures.memory c.tokens_are_kept.ensures) c.tags_are_small.ensures (option_copied c.find.result.1) c.find.ensures.memory c.kept.result
+    (subst ArePairs (c.partners_of-partners.ensures ∙ ap (λ k. tokens_of k x.node (other_side x.side)) c.find.ensures.memory) c.partners_are_kept.ensures) c.tags_are_small.ensures (pairs_of (option_copied c.partners_of-partners.result)) (c.partners_of-partners.ensures ∙ ap (λ k. tokens_of k x.node (other_side x.side)) c.find.ensures.memory) c.kept.result
     (c.kept.ensures ∙ (c.find.ensures.spot.kept ∙ ap (λ k. filed_in old x.node k x.side x.token) c.find.ensures.code))
     c.in_ok-done.ensures.room in
     subst (λ k. IsFiled c.add_at.new.self x.node k Left t) (sym c.requires.code)
@@ -90,11 +92,11 @@ returns-clause-ok c =
     let old = c.args.line.now in
     let before = c.args.out.now.items in
     let done = c.in_ok-done.ensures.ok in
-    let e : Effect = effect_at node (held_of s) (option_copied c.find.result.1) x (changes (option_map_or (λ (k : TokenCount). k.sum) c.kept.result (pos 0)) x.plus) in
+    let e : Effect = effect_at node (held_of s) c.kept.result (pairs_of (option_copied c.partners_of-partners.result)) x (changes (option_map_or (λ (k : TokenCount). k.sum) c.kept.result (pos 0)) x.plus) in
     let is =
     done_effect c.args.net.now.alphas nodes c.node_of-node.ensures.sound s old x c.requires.fits c.requires.counted node c.node_of-node.ensures.node
     (c.args.code) (sym c.requires.code)
-    (subst Kept c.find.ensures.memory c.tokens_are_kept.ensures) c.tags_are_small.ensures (option_copied c.find.result.1) c.find.ensures.memory c.kept.result
+    (subst ArePairs (c.partners_of-partners.ensures ∙ ap (λ k. tokens_of k x.node (other_side x.side)) c.find.ensures.memory) c.partners_are_kept.ensures) c.tags_are_small.ensures (pairs_of (option_copied c.partners_of-partners.result)) (c.partners_of-partners.ensures ∙ ap (λ k. tokens_of k x.node (other_side x.side)) c.find.ensures.memory) c.kept.result
     (c.kept.ensures ∙ (c.find.ensures.spot.kept ∙ ap (λ k. filed_in old x.node k x.side x.token) c.find.ensures.code))
     c.in_ok-done.ensures.room in
     let entry : Entry = record { task = x; children = c.since-children.result } in
@@ -114,11 +116,11 @@ returns-clause-counted c =
     let old = c.args.line.now in
     let new = c.count_blockers.new.line in
     let done = c.in_ok-done.ensures.ok in
-    let e : Effect = effect_at node (held_of s) (option_copied c.find.result.1) x (changes (option_map_or (λ (k : TokenCount). k.sum) c.kept.result (pos 0)) x.plus) in
+    let e : Effect = effect_at node (held_of s) c.kept.result (pairs_of (option_copied c.partners_of-partners.result)) x (changes (option_map_or (λ (k : TokenCount). k.sum) c.kept.result (pos 0)) x.plus) in
     let is =
     done_effect c.args.net.now.alphas nodes c.node_of-node.ensures.sound s old x c.requires.fits c.requires.counted node c.node_of-node.ensures.node
     (c.args.code) (sym c.requires.code)
-    (subst Kept c.find.ensures.memory c.tokens_are_kept.ensures) c.tags_are_small.ensures (option_copied c.find.result.1) c.find.ensures.memory c.kept.result
+    (subst ArePairs (c.partners_of-partners.ensures ∙ ap (λ k. tokens_of k x.node (other_side x.side)) c.find.ensures.memory) c.partners_are_kept.ensures) c.tags_are_small.ensures (pairs_of (option_copied c.partners_of-partners.result)) (c.partners_of-partners.ensures ∙ ap (λ k. tokens_of k x.node (other_side x.side)) c.find.ensures.memory) c.kept.result
     (c.kept.ensures ∙ (c.find.ensures.spot.kept ∙ ap (λ k. filed_in old x.node k x.side x.token) c.find.ensures.code))
     c.in_ok-done.ensures.room in
     let added : (n : ℕ) (t : List ℕ) → sum_in new n Left t ≢ pos 0 → blockers_in c.add_at.new.self n t ≡ cond (is_at n Left t x) e.blockers (blockers_in old n t) =
