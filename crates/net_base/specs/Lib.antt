@@ -8,3 +8,5 @@ pub mod Keys
 pub mod Lists
 pub mod Rows
 pub mod Feeds
+pub mod Bundles
+pub mod BundleLaws

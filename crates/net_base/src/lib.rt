@@ -3,6 +3,7 @@
 #![tactic(auto)]
 
 mod alpha_index;
+mod bundles;
 pub mod counts;
 mod keys;
 pub mod laws;

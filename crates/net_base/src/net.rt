@@ -5,9 +5,11 @@ ghost use Rattle.net_base.specs.Sound.{IsSound, is_join, is_negated, is_terminal
 ghost use Rattle.net_base.specs.Shape.{counts_of};
 ghost use Rattle.net_base.specs.Tokens.{passes_alpha};
 ghost use Rattle.net_base.specs.Rows.{row_at};
+ghost use Rattle.net_base.specs.Bundles.{AreKeepers, keeper};
 ghost use Rattle.net_base.specs.Feeds.{IsCandidate, IsIndex, takers_of};
 
 use crate::alpha_index::AlphaIndex;
+use crate::bundles::keepers;
 use crate::counts::Counts;
 use crate::nodes::{Alpha, Kind, Node};
 use crate::rows::Rows;
@@ -29,9 +31,11 @@ pub struct Net {
     nodes: Listed<Node>,
     index: AlphaIndex,
     takers: Rows,
+    keepers: Vec<usize>,
     ghost sound: { IsSound alphas nodes },
     ghost indexed: { IsIndex alphas index },
     ghost fed: { (alpha : ℕ) → row_at takers alpha ≡ takers_of nodes alpha },
+    ghost kept: { AreKeepers nodes keepers.items },
 }
 
 fn is_join(kind: Kind) -> bool
@@ -61,7 +65,7 @@ fn is_terminal(kind: Kind) -> bool
     }
 }
 
-fn takes_elements(kind: Kind) -> bool
+pub(crate) fn takes_elements(kind: Kind) -> bool
     ensures { result ≡ takes_elements kind }
 {
     match kind {
@@ -115,11 +119,13 @@ impl Net {
     {
         let index = AlphaIndex::of(alloc, alphas.as_slice())?;
         let takers = takers(alloc, nodes.as_slice())?;
+        let keepers = keepers(alloc, nodes.as_slice())?;
         Ok(Net {
             alphas,
             nodes,
             index,
             takers,
+            keepers,
         })
     }
 
@@ -158,6 +164,19 @@ impl Net {
         ensures { result.now ≡ takers_of self.now.nodes alpha }
     {
         self.takers.at(alpha)
+    }
+
+    /// The first node of the bundle of this node: these take the elements of one alpha, and compare the same fields of an
+    /// element for equality. It is the node itself for a group, a terminal, and where there is no such node. Takes no
+    /// memory, and makes no lookup.
+    #[inline(always)]
+    pub fn keeper(&self, node: usize) -> usize
+        ensures { result ≡ keeper self.now.nodes node }
+    {
+        match self.keepers.get(node) {
+            Some(keeper) => *keeper,
+            None => node,
+        }
     }
 
     /// How many alphas it has, and how many nodes of each kind. The nodes of a group's members are counted as joins,
