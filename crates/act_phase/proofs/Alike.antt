@@ -431,7 +431,10 @@ module _ (W w : List Element) (first : ℕ) (before : List Change) where
     bytes = refl;
     outcome = (refl, record { wm = p.wm; lawful = p.lawful; last = p.last; more = p.more; grown = p.grown; none = p.none; fresh = p.fresh; cells = p.cells; made = p.made; gone = p.gone });
   }
-  action_alike s column (action.Build template holes) d p = record { bytes = refl; outcome = (refl, p) }
+  action_alike s column (action.Build template holes) d p = record {
+    bytes = refl;
+    outcome = (refl, record { wm = p.wm; lawful = p.lawful; last = p.last; more = p.more; grown = p.grown; none = p.none; fresh = p.fresh; cells = p.cells; made = p.made; gone = p.gone });
+  }
 
   actions_alike : (s : Setting) (column n : ℕ) (actions : List Action) (d : ActState) → Alike d → SameDoing (actions_done s column n actions (over d)) (actions_done s column n actions d)
   actions_alike s column n [] d p = record { bytes = refl; outcome = (refl, p) }

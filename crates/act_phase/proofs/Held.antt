@@ -240,6 +240,11 @@ rules_of_program n p h =
     let front = and_parts (list_all (class_held n) p.classes && list_all (rule_held n) p.rules) (list_all (rule_held n) p.templates) whole.0 in
     (and_parts (list_all (class_held n) p.classes) (list_all (rule_held n) p.rules) front.0).1
 
+pub templates_of_program : (n : ℕ) (p : Program) → is_held n p.classes p.rules p.templates p.commands ≡ true → list_all (rule_held n) p.templates ≡ true
+templates_of_program n p h =
+    let whole = and_parts (list_all (class_held n) p.classes && list_all (rule_held n) p.rules && list_all (rule_held n) p.templates) (list_all (command_held n) p.commands) h in
+    (and_parts (list_all (class_held n) p.classes && list_all (rule_held n) p.rules) (list_all (rule_held n) p.templates) whole.0).1
+
 -- ---- changes done
 
 pub done_held : (n : ℕ) (wm : List Element) (cs : List Change) → list_all (element_held n) wm ≡ true → list_all (change_held n) cs ≡ true → list_all (element_held n) (done wm cs) ≡ true

@@ -1,4 +1,4 @@
--- A right side makes no symbol that the names do not hold: what it binds, copies, places and makes comes from the
+-- A right side makes no symbol that the names do not hold: what it binds, copies, places, makes and builds comes from the
 -- program, from working memory, from fresh atoms and from the input, all of which are held.
 use Rattle.std.proofs.Common.{◌≡◌, ℕ, zero, suc, ◌+◌, ◌<◌, ◌≤◌, Bool, true, cond, ◌&&◌, ◌==◌, not, List, [], ◌∷◌, ◌++◌, length, take, fold, ℤ, Option, Some, None, Result, Ok, Err, MatchResult, refl, ap, ◌∙◌, arith, slice_get, unwrap_or, nat_lt}
 use Rattle.std.specs.Prelude.{slice_set, int_div, int_rem, ◌+ℤ◌, ◌-ℤ◌, ◌*ℤ◌, bytes_eq, option_and_then}
@@ -8,6 +8,7 @@ use Rattle.std.proofs.lemmas.List.{length_push}
 use Rattle.std.proofs.lemmas.List.Sums.{prefix_len-le-length}
 use Rattle.ops_base.specs.declared.actions.Action.{Action}
 use Rattle.ops_base.specs.declared.actions.Action.TheVariants as action
+use Rattle.ops_base.specs.declared.actions.Hole.{Hole}
 use Rattle.ops_base.specs.declared.actions.Item.{Item}
 use Rattle.ops_base.specs.declared.actions.Item.TheVariants as item
 use Rattle.ops_base.specs.declared.actions.Put.{Put}
@@ -44,13 +45,14 @@ use Rattle.ops_tokens.specs.Accepting.{Accepted, Atom, Number, Spelled, accepted
 use Rattle.ops_tokens.specs.Numbers.{is_in_range}
 use Rattle.ops_tokens.specs.declared.accept.AcceptFault.{AcceptFault}
 use Rattle.ops_tokens.specs.declared.accept.AcceptFault.TheVariants as accept_fault
-use Rattle.ops_meaning.specs.Acting.{Setting, ActState, ActionError, in_action, Given, Acted, Valued, Filled, no_element, element_of, elements_of, matched_by, bindings_of, conditions_of, actions_of, cell_of, value_in, evaluated, computed_as, accepted_as, first_of, value_placed, values_placed, placed, terms_placed, emptied, puts_made, puts_over, made_fields, modified_fields, has_tag, changed, next_element, added, removed, modified, made_by, made_last, bound, printed, lead_after, item_done, items_done, changes_told, action_done, actions_done, begun, left_by, acted}
+use Rattle.ops_meaning.specs.Acting.{Setting, ActState, ActionError, in_action, Given, Acted, Valued, Filled, no_element, element_of, elements_of, matched_by, bindings_of, conditions_of, actions_of, cell_of, value_in, evaluated, computed_as, accepted_as, first_of, value_placed, values_placed, placed, terms_placed, emptied, puts_made, puts_over, made_fields, modified_fields, has_tag, changed, next_element, added, removed, modified, made_by, made_last, bound, fillings, filled_from, printed, lead_after, item_done, items_done, changes_told, action_done, actions_done, begun, left_by, acted}
 use Rattle.ops_meaning.specs.Computing.{Computed, in_range, with_divisor, is_zero, operated, applied, computed}
 use Rattle.ops_meaning.specs.Effects.{followed_by, outcome_as}
 use Rattle.ops_meaning.specs.Layout.{Lead, Apart}
 use Rattle.ops_meaning.proofs.Doings.{goes_on, goes_as}
 use Rattle.act_phase.specs.Held.{element_held, change_held}
-use Rattle.act_phase.proofs.Held.{all_push, all_set, all_take, all_drop, all_replicate, all_got, all_found, of_found, all_weaken, value_more, values_more, elements_more, changes_more, HoldsOf}
+use Rattle.act_phase.proofs.FilledHeld.{filling_held, from_still}
+use Rattle.act_phase.proofs.Held.{all_push, all_both, rules_more, all_set, all_take, all_drop, all_replicate, all_got, all_found, of_found, all_weaken, value_more, values_more, elements_more, changes_more, HoldsOf}
 
 goes_behind : {E S T : Type 0} (P : S → Type 0) (Q : T → Type 0) (R : E → Type 0) (o : Result S E) (next : S → Result T E) → MatchResult o P R → ((s : S) → P s → MatchResult (next s) Q R) → MatchResult (followed_by o next) Q R
 goes_behind P Q R (Ok s) next p q = q s p
@@ -225,12 +227,14 @@ accepts_held names c =
 
 -- ---- a right side
 
--- At least this many symbols are held, and all that stand in the bindings, the cells and the changes so far.
+-- At least this many symbols are held, and all that stand in the bindings, the cells, the changes so far and the
+-- productions that were built.
 pub record HeldDoing (n : ℕ) (d : ActState) : Type 0 where
   pub more : n ≤ length d.names.held
   pub bindings : list_all (binding_held (length d.names.held)) d.bindings ≡ true
   pub cells : list_all (element_held (length d.names.held)) d.cells ≡ true
   pub changes : list_all (change_held (length d.names.held)) d.changes ≡ true
+  pub built : list_all (rule_held (length d.names.held)) d.built ≡ true
 
 -- What evaluating leaves before which there were this many names: all its values are held.
 pub record HeldValues (n before : ℕ) (vs : List Value) (d : ActState) : Type 0 where
@@ -242,6 +246,7 @@ pub record HeldValues (n before : ℕ) (vs : List Value) (d : ActState) : Type 0
 pub record HeldActed (n : ℕ) (a : Acted) : Type 0 where
   pub more : n ≤ length a.names.held
   pub changes : list_all (change_held (length a.names.held)) a.changes ≡ true
+  pub built : list_all (rule_held (length a.names.held)) a.built ≡ true
 
 module _ (n : ℕ) (some : 0 < n) where
   abbrev Held : ActState → Type 0
@@ -266,6 +271,7 @@ module _ (n : ℕ) (some : 0 < n) where
     bindings = all_weaken (binding_held (count d)) (binding_held (length names.held)) (λ b. value_more (count d) (length names.held) le b.value) d.bindings p.bindings;
     cells = elements_more (count d) (length names.held) le d.cells p.cells;
     changes = changes_more (count d) (length names.held) le d.changes p.changes;
+    built = rules_more (count d) (length names.held) le d.built p.built;
   }
 
   variable_held : (d : ActState) (v : ℕ) → Held d → value_held (count d) (value_in d v) ≡ true
@@ -344,10 +350,11 @@ module _ (n : ℕ) (some : 0 < n) where
     bindings = p.bindings;
     cells = p.cells;
     changes = all_push (change_held (count d)) d.changes (change.Add (next_element d class fields)) p.changes h;
+    built = p.built;
   }
 
   taken_held : (d : ActState) (tag : ℕ) → Held d → Held (changed d (change.Remove tag))
-  taken_held d tag p = record { more = p.more; bindings = p.bindings; cells = p.cells; changes = all_push (change_held (count d)) d.changes (change.Remove tag) p.changes refl }
+  taken_held d tag p = record { more = p.more; bindings = p.bindings; cells = p.cells; changes = all_push (change_held (count d)) d.changes (change.Remove tag) p.changes refl; built = p.built }
 
   removed_held : (d : ActState) (tag : ℕ) → Held d → Held (removed d tag)
   removed_held d tag p = cond_both (has_tag d.wm tag) (changed d (change.Remove tag)) d Held (λ _. taken_held d tag p) (λ _. p)
@@ -365,6 +372,7 @@ module _ (n : ℕ) (some : 0 < n) where
         bindings = more.bindings;
         cells = all_set (element_held (count d)) cells cell e h (ap (list_all (value_held (count d))) same ∙ k);
         changes = more.changes;
+        built = more.built;
       }
 
   modified_held : (d : ActState) (cell : ℕ) (fields : List Value) → Held d → list_all (value_held (count d)) fields ≡ true → Held (modified d cell fields)
@@ -395,47 +403,60 @@ module _ (n : ℕ) (some : 0 < n) where
       goes_on Held Held Any e.bytes e.outcome (λ d. items_done classes (lead_after x) (column_after column e.bytes) items d) (item_done_held classes lead column x d parts.0 p)
       (λ d q. items_done_held classes (lead_after x) (column_after column e.bytes) items d parts.1 q)
 
-  action_done_held : (s : Setting) (column : ℕ) (a : Action) (d : ActState) → action_held n a ≡ true → Held d → MatchResult (action_done s column a d).outcome Held Any
-  action_done_held s column (action.Make class puts) d h p =
+  fillings_held : (d : ActState) (holes : List Hole) → Held d → list_all (filling_held (count d)) (fillings d.bindings holes) ≡ true
+  fillings_held d [] p = refl
+  fillings_held d (h ∷ holes) p = and_from _ _ (variable_held d h.variable p) (fillings_held d holes p)
+
+  action_done_held : (s : Setting) (column : ℕ) (a : Action) (d : ActState) → list_all (rule_held n) s.templates ≡ true → action_held n a ≡ true → Held d → MatchResult (action_done s column a d).outcome Held Any
+  action_done_held s column (action.Make class puts) d t h p =
       let c = class_of s.classes class in
       goes_on Held Held Any [] (followed_by (made_fields s.classes c puts d) (λ f. Ok (added f.doing class f.fields))) (changes_told s d (column_after column []))
       (goes_behind (HeldFilled (count d)) Held Any (made_fields s.classes c puts d) (λ f. Ok (added f.doing class f.fields))
       (puts_made_held s.classes c (count d) puts (record { fields = no_fields c; doing = d }) h (record { doing = p; values = no_fields_held (count d) (some_in d p) c; grown = omega arith }))
       (λ f q. added_held f.doing class f.fields q.doing q.values))
       (λ d q. q)
-  action_done_held s column (action.Modify cell puts) d h p =
+  action_done_held s column (action.Modify cell puts) d t h p =
       goes_on Held Held Any [] (followed_by (modified_fields s.classes puts cell d) (λ f. Ok (modified f.doing cell f.fields))) (changes_told s d (column_after column []))
       (goes_behind (HeldFilled (count d)) Held Any (modified_fields s.classes puts cell d) (λ f. Ok (modified f.doing cell f.fields))
       (puts_over_held s.classes (count d) puts (record { fields = (cell_of d cell).fields; doing = d }) h (record { doing = p; values = cell_held (count d) (some_in d p) d.cells cell p.cells; grown = omega arith }))
       (λ f q. modified_held f.doing cell f.fields q.doing q.values))
       (λ d q. q)
-  action_done_held s column (action.Remove cells) d h p = all_removed cells d p
-  action_done_held s column (action.Write items) d h p = items_done_held s.classes Apart column items d h p
-  action_done_held s column (action.Bind place t) d h p =
-      goes_behind (HeldValued (count d)) Held Any (evaluated s.classes t d) (λ v. Ok (bound v.doing place (first_of v.values))) (evaluated_held s.classes t d h p)
+  action_done_held s column (action.Remove cells) d t h p = all_removed cells d p
+  action_done_held s column (action.Write items) d t h p = items_done_held s.classes Apart column items d h p
+  action_done_held s column (action.Bind place x) d t h p =
+      goes_behind (HeldValued (count d)) Held Any (evaluated s.classes x d) (λ v. Ok (bound v.doing place (first_of v.values))) (evaluated_held s.classes x d h p)
       (λ v q. record {
         more = q.doing.more;
         bindings = all_push (binding_held (count v.doing)) v.doing.bindings (record { variable = place; value = first_of v.values }) q.doing.bindings (first_held (count v.doing) (some_in v.doing q.doing) v.values q.values);
         cells = q.doing.cells;
         changes = q.doing.changes;
+        built = q.doing.built;
       })
-  action_done_held s column (action.Cbind cell) d h p = record {
+  action_done_held s column (action.Cbind cell) d t h p = record {
     more = p.more;
     bindings = p.bindings;
     cells = all_push (element_held (count d)) d.cells (made_last d.changes) p.cells (made_held (count d) (some_in d p) d.changes no_element refl p.changes);
     changes = p.changes;
+    built = p.built;
   }
-  action_done_held s column action.Halt d h p = record { more = p.more; bindings = p.bindings; cells = p.cells; changes = p.changes }
-  action_done_held s column (action.Build template holes) d h p = p
+  action_done_held s column action.Halt d t h p = record { more = p.more; bindings = p.bindings; cells = p.cells; changes = p.changes; built = p.built }
+  action_done_held s column (action.Build template holes) d t h p = record {
+    more = p.more;
+    bindings = p.bindings;
+    cells = p.cells;
+    changes = p.changes;
+    built = all_both (rule_held (count d)) d.built (filled_from s.templates template (fillings d.bindings holes)) p.built
+        (from_still (count d) (fillings d.bindings holes) (fillings_held d holes p) s.templates template (rules_more n (count d) p.more s.templates t));
+  }
 
-  actions_done_held : (s : Setting) (column k : ℕ) (actions : List Action) (d : ActState) → list_all (action_held n) actions ≡ true → Held d → MatchResult (actions_done s column k actions d).outcome Held Any
-  actions_done_held s column k [] d h p = p
-  actions_done_held s column k (a ∷ rest) d h p =
+  actions_done_held : (s : Setting) (column k : ℕ) (actions : List Action) (d : ActState) → list_all (rule_held n) s.templates ≡ true → list_all (action_held n) actions ≡ true → Held d → MatchResult (actions_done s column k actions d).outcome Held Any
+  actions_done_held s column k [] d t h p = p
+  actions_done_held s column k (a ∷ rest) d t h p =
       let parts = and_parts (action_held n a) (list_all (action_held n) rest) h in
       let e = action_done s column a d in
       goes_on Held Held Any e.bytes (outcome_as (λ d. d) (in_action k) e.outcome) (λ d. actions_done s (column_after column e.bytes) (suc k) rest d)
-      (goes_as Held Held Any Any (λ d. d) (in_action k) e.outcome (action_done_held s column a d parts.0 p) (λ d q. q) (λ m q. tt))
-      (λ d q. actions_done_held s (column_after column e.bytes) (suc k) rest d parts.1 q)
+      (goes_as Held Held Any Any (λ d. d) (in_action k) e.outcome (action_done_held s column a d t parts.0 p) (λ d q. q) (λ m q. tt))
+      (λ d q. actions_done_held s (column_after column e.bytes) (suc k) rest d t parts.1 q)
 
   actions_of_held : (rules : List Rule) (i : ℕ) → list_all (rule_held n) rules ≡ true → list_all (action_held n) (actions_of rules i) ≡ true
   actions_of_held [] i h = refl
@@ -444,20 +465,22 @@ module _ (n : ℕ) (some : 0 < n) where
       (and_parts (symbol_held n r.name && list_all (part_held n) r.conditions) (list_all (action_held n) r.actions) whole.0).1
   actions_of_held (r ∷ rules) (suc i) h = actions_of_held rules i (and_parts (rule_held n r) (list_all (rule_held n) rules) h).1
 
--- Where the names hold nil, the symbols of the rules and those of working memory, they hold after a right side those
--- that it makes.
-pub acted_held : (s : Setting) (column : ℕ) (i : Inst) (g : Given) → 0 < length g.names.held → list_all (rule_held (length g.names.held)) s.rules ≡ true → list_all (element_held (length g.names.held)) g.wm ≡ true
+-- Where the names hold nil, the symbols of the rules and the templates and those of working memory, they hold after a
+-- right side those that it makes, and those of the productions that it builds.
+pub acted_held : (s : Setting) (column : ℕ) (i : Inst) (g : Given) → 0 < length g.names.held → list_all (rule_held (length g.names.held)) s.rules ≡ true
+    → list_all (rule_held (length g.names.held)) s.templates ≡ true → list_all (element_held (length g.names.held)) g.wm ≡ true
     → MatchResult (acted s column i g).outcome (HeldActed (length g.names.held)) Any
-acted_held s column i g some rules memory =
+acted_held s column i g some rules templates memory =
     let n = length g.names.held in
     let start = begun s i g in
     let e = actions_done s column 1 (actions_of s.rules i.rule) start in
     goes_as (HeldDoing n) (HeldActed n) Any Any left_by (λ f. f) e.outcome
-    (actions_done_held n some s column 1 (actions_of s.rules i.rule) start (actions_of_held n some s.rules i.rule rules)
+    (actions_done_held n some s column 1 (actions_of s.rules i.rule) start templates (actions_of_held n some s.rules i.rule rules)
     (record {
       more = omega arith;
       bindings = brought_held n some g.wm (conditions_of s.rules i.rule) i.tags [] memory refl;
       cells = elements_held n some g.wm i.tags memory;
       changes = refl;
+      built = refl;
     }))
-    (λ d p. record { more = p.more; changes = p.changes }) (λ e p. tt)
+    (λ d p. record { more = p.more; changes = p.changes; built = p.built }) (λ e p. tt)

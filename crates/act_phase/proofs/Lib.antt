@@ -12,6 +12,8 @@ pub mod Evaluating
 pub mod Following
 pub mod Found
 pub mod Held
+pub mod FilledAsks
+pub mod FilledHeld
 pub mod HeldDoings
 pub mod ItemLemmas
 pub mod Placing

@@ -1,16 +1,23 @@
 -- The state of a right side after one action more.
-use Rattle.std.proofs.Common.{◌≡◌, ℕ, ◌+◌, List, [], ◌∷◌, ◌++◌, Bool, true, false, cond, map, length, refl, ap, ◌∙◌}
-use Rattle.std.specs.Prelude.{slice_set}
+use Rattle.std.proofs.Common.{◌≡◌, ℕ, ◌+◌, List, [], ◌∷◌, ◌++◌, Bool, true, false, cond, map, length, Option, Some, None, slice_get, unwrap_or, refl, ap, sym, ◌∙◌, subst}
+use Rattle.std.specs.Prelude.{slice_set, option_map}
+use Rattle.std.specs.Borrow.{Bor}
 use Rattle.std.specs.List.{list_all}
-use Rattle.std.proofs.lemmas.List.{map-append, map-set}
+use Rattle.std.specs.Slice.{IsItemAt}
+use Rattle.std.proofs.lemmas.List.{append-nil, map-append, map-set}
+use Rattle.std.proofs.lemmas.Option.{slice_get_read, slice_get_past}
+use Rattle.ops_base.specs.Filling.{rule_filled}
 use Rattle.ops_base.specs.Names.{Spellings}
 use Rattle.ops_base.specs.declared.elements.Element.{Element}
 use Rattle.ops_base.specs.declared.elements.Change.{Change}
 use Rattle.ops_base.specs.declared.elements.Change.TheVariants as change
+use Rattle.ops_base.specs.declared.actions.Hole.{Hole}
+use Rattle.ops_base.specs.declared.filling.Filling.{Filling}
 use Rattle.ops_base.specs.declared.matching.Binding.{Binding}
+use Rattle.ops_base.specs.declared.rules.Rule.{Rule}
 use Rattle.ops_base.specs.declared.values.Value.{Value}
 use Rattle.ops_io.specs.Coming.{Coming}
-use Rattle.ops_meaning.specs.Acting.{ActState as Meant, Setting, has_tag, cell_of, next_element, added, removed, modified, changed, cell_bound, made_last}
+use Rattle.ops_meaning.specs.Acting.{ActState as Meant, Setting, has_tag, cell_of, next_element, added, removed, modified, changed, cell_bound, made_last, fillings, rule_built}
 use Rattle.ops_base.proofs.Changes.{done_push}
 use Rattle.act_phase.specs.Changed.{Changed, GoesOnTo, memory_of, with_change, with_removed, with_added}
 use Rattle.act_phase.specs.State.{State, made_at, held_by, is_there, doing_of}
@@ -33,14 +40,14 @@ removed-last d tag = by (has_tag d.wm tag)
     by false = refl
 
 -- the state where the code keeps this
-abbrev pub state_of : Setting → Changed → List Binding → List Cell → Bool → State
-state_of setting w bindings cells halted = record { setting = setting; working = w; bindings = bindings; cells = map (held_by w.changes) cells; halted = halted }
+abbrev pub state_of : Setting → Changed → List Binding → List Cell → Bool → List Rule → State
+state_of setting w bindings cells halted built = record { setting = setting; working = w; bindings = bindings; cells = map (held_by w.changes) cells; halted = halted; built = built }
 
 -- another cell in the place of one
-pub state_set : (setting : Setting) (w : Changed) (bindings : List Binding) (cells : List Cell) (halted : Bool) (s : State) → state_of setting w bindings cells halted ≡ s → (at place : ℕ)
-    → state_of setting w bindings (slice_set cells at (cell.Made place)) halted ≡ record s { cells = slice_set s.cells at (made_at s.working.changes place) }
-state_set setting w bindings cells halted s view_is at place =
-    let with_cells : List Element → State = λ cs. record (state_of setting w bindings cells halted) { cells = cs } in
+pub state_set : (setting : Setting) (w : Changed) (bindings : List Binding) (cells : List Cell) (halted : Bool) (built : List Rule) (s : State) → state_of setting w bindings cells halted built ≡ s → (at place : ℕ)
+    → state_of setting w bindings (slice_set cells at (cell.Made place)) halted built ≡ record s { cells = slice_set s.cells at (made_at s.working.changes place) }
+state_set setting w bindings cells halted built s view_is at place =
+    let with_cells : List Element → State = λ cs. record (state_of setting w bindings cells halted built) { cells = cs } in
     ap with_cells (map-set (held_by w.changes) cells at (cell.Made place))
     ∙ ap (λ (s : State). record s { cells = slice_set s.cells at (made_at s.working.changes place) }) view_is
 
@@ -83,24 +90,54 @@ module _ (names : Spellings) (coming : Coming) where
 
   -- ---- with the cells as the code keeps them
 
-  module _ (setting : Setting) (w v : Changed) (bindings : List Binding) (cells : List Cell) (halted : Bool) (s : State) (view_is : state_of setting w bindings cells halted ≡ s) (p : GoesOnTo w v) (there : list_all (is_there (length w.changes)) cells ≡ true) where
-    cells_as : seen (state_of setting v bindings cells halted) ≡ seen (record (state_of setting w bindings cells halted) { working = v })
+  module _ (setting : Setting) (w v : Changed) (bindings : List Binding) (cells : List Cell) (halted : Bool) (built : List Rule) (s : State) (view_is : state_of setting w bindings cells halted built ≡ s) (p : GoesOnTo w v) (there : list_all (is_there (length w.changes)) cells ≡ true) where
+    cells_as : seen (state_of setting v bindings cells halted built) ≡ seen (record (state_of setting w bindings cells halted built) { working = v })
     cells_as =
-        let with_cells : List Element → Meant = λ cs. seen (record (state_of setting v bindings cells halted) { cells = cs }) in
+        let with_cells : List Element → Meant = λ cs. seen (record (state_of setting v bindings cells halted built) { cells = cs }) in
         ap with_cells (still_held w v cells p there)
 
-    pub state_added : (class : ℕ) (fields : List Value) → (let e : Element = record { tag = w.last + 1; class = class; fields = fields } in v ≡ with_added w e) → seen (state_of setting v bindings cells halted) ≡ added (seen s) class fields
+    pub state_added : (class : ℕ) (fields : List Value) → (let e : Element = record { tag = w.last + 1; class = class; fields = fields } in v ≡ with_added w e) → seen (state_of setting v bindings cells halted built) ≡ added (seen s) class fields
     state_added class fields is =
-        cells_as ∙ doing_added (state_of setting w bindings cells halted) v class fields is ∙ ap (λ (s : State). added (seen s) class fields) view_is
+        cells_as ∙ doing_added (state_of setting w bindings cells halted built) v class fields is ∙ ap (λ (s : State). added (seen s) class fields) view_is
 
-    pub state_removed : (tag t : ℕ) → v ≡ with_removed w tag → tag ≡ t → seen (state_of setting v bindings cells halted) ≡ removed (seen s) t
+    pub state_removed : (tag t : ℕ) → v ≡ with_removed w tag → tag ≡ t → seen (state_of setting v bindings cells halted built) ≡ removed (seen s) t
     state_removed tag t is same =
-        cells_as ∙ doing_removed (state_of setting w bindings cells halted) v tag t is same ∙ ap (λ (s : State). removed (seen s) t) view_is
+        cells_as ∙ doing_removed (state_of setting w bindings cells halted built) v tag t is same ∙ ap (λ (s : State). removed (seen s) t) view_is
 
   -- a cell more
-  pub state_bound : (setting : Setting) (w : Changed) (bindings : List Binding) (cells : List Cell) (halted : Bool) (s : State) → state_of setting w bindings cells halted ≡ s → (c : Cell) → held_by w.changes c ≡ made_last w.changes
-      → seen (state_of setting w bindings (cells ++ c ∷ []) halted) ≡ cell_bound (seen s)
-  state_bound setting w bindings cells halted s view_is c is =
-      let with_cells : List Element → Meant = λ cs. seen (record (state_of setting w bindings cells halted) { cells = cs }) in
+  pub state_bound : (setting : Setting) (w : Changed) (bindings : List Binding) (cells : List Cell) (halted : Bool) (built : List Rule) (s : State) → state_of setting w bindings cells halted built ≡ s → (c : Cell) → held_by w.changes c ≡ made_last w.changes
+      → seen (state_of setting w bindings (cells ++ c ∷ []) halted built) ≡ cell_bound (seen s)
+  state_bound setting w bindings cells halted built s view_is c is =
+      let with_cells : List Element → Meant = λ cs. seen (record (state_of setting w bindings cells halted built) { cells = cs }) in
       ap with_cells (map-append (held_by w.changes) cells (c ∷ []) ∙ ap (λ e. map (held_by w.changes) cells ++ e ∷ []) is)
       ∙ ap (λ (s : State). cell_bound (seen s)) view_is
+
+-- ---- productions that are built
+
+-- what the code's look-up of a template found
+pub template_there : (ts : List Rule) (n : ℕ) (r : Option (Bor Rule)) → IsItemAt ts n r → (x : Bor Rule) → r ≡ Some x → slice_get ts n ≡ Some x.now
+template_there ts n r got x is =
+    let w = subst (IsItemAt ts n) is got in
+    slice_get_read ts (length ts) n x.now refl w.3.0 w.1
+
+pub no_template : (ts : List Rule) (n : ℕ) (r : Option (Bor Rule)) → IsItemAt ts n r → r ≡ None → slice_get ts n ≡ None
+no_template ts n r got is = slice_get_past ts n (subst (IsItemAt ts n) is got).3
+
+-- there is no such template
+pub none_built : (templates : List Rule) (n : ℕ) (holes : List Hole) (d : Meant) → slice_get templates n ≡ None → d ≡ rule_built templates n holes d
+none_built templates n holes d none =
+    let with_built : List Rule → Meant = λ b. record d { built = b } in
+    ap with_built (sym (append-nil d.built))
+    ∙ ap (λ o. with_built (d.built ++ unwrap_or (option_map (λ r. rule_filled (fillings d.bindings holes) r ∷ []) o) [])) (sym none)
+
+-- one more was built
+pub state_built : (names : Spellings) (coming : Coming) (setting : Setting) (w : Changed) (bindings : List Binding) (cells : List Cell) (halted : Bool) (built : List Rule) (s : State) → state_of setting w bindings cells halted built ≡ s
+    → (n : ℕ) (holes : List Hole) (template rule : Rule) (fs : List Filling) → slice_get setting.templates n ≡ Some template → fs ≡ fillings bindings holes → rule ≡ rule_filled fs template
+    → doing_of (state_of setting w bindings cells halted (built ++ rule ∷ [])) names coming ≡ rule_built s.setting.templates n holes (doing_of s names coming)
+state_built names coming setting w bindings cells halted built s view_is n holes template rule fs there filled is =
+    let with_built : List Rule → Meant = λ b. doing_of (state_of setting w bindings cells halted b) names coming in
+    let from : Option Rule → List Filling → List Rule = λ o fs. unwrap_or (option_map (λ r. rule_filled fs r ∷ []) o) [] in
+    ap (λ r. with_built (built ++ r ∷ [])) is
+    ∙ ap (λ o. with_built (built ++ from o fs)) (sym there)
+    ∙ ap (λ fs. with_built (built ++ from (slice_get setting.templates n) fs)) filled
+    ∙ ap (λ (s : State). rule_built s.setting.templates n holes (doing_of s names coming)) view_is

@@ -14,7 +14,8 @@ use Rattle.ops_io.specs.Coming.{Coming, preceded_by}
 use Rattle.ops_io.proofs.ComingLemmas.{may_end, steady_comes}
 use Rattle.ops_meaning.specs.Acting.{Setting, ActionError as Missed, Misdeed, ActState as Meant, Given, Acted as Done, action_done, actions_done, in_action, begun, left_by, acted, actions_of}
 use Rattle.ops_meaning.specs.Effects.{Effect, writes, silent, going_on, followed_by, and_then, told_as, outcome_as, failure_as, Failure, CountsReads}
-use Rattle.ops_meaning.specs.Kept.{WellKept, IsLawfulOver}
+use Rattle.ops_meaning.specs.Kept.{WellKept, IsLawfulOver, AreFilledFrom}
+use Rattle.ops_meaning.proofs.Doings.{EndsActions, KeptActed, acted_kept}
 use Rattle.ops_meaning.proofs.InletLemmas.{FailsOn, leaves_on, fails_on, on_ok, on_err, told_leaves_on, told_fails_on}
 use Rattle.ops_meaning.proofs.RisingTags.{acts_lawfully}
 use Rattle.work_store.specs.Stored.{Stored, IsStored}
@@ -164,13 +165,25 @@ module _ (s : Setting) (inst : Inst) (wm : List Element) (last : ℕ) (a : Scene
       let lawful = subst P answer (acts_lawfully s a.port.out.column inst given well) in
       (lawful.changes, lawful.risen)
 
-  -- What was made is held, where the rest was.
+  -- what was built are templates with other constants
+  pub whole_built : {b : Scene} (r : Acted) → Does (λ r d. acted_of r b.names d) failure_of is_read (Ok r) a b right_side → AreFilledFrom s.templates r.built
+  whole_built {b = b} r p =
+      let end = may_end b.inlet in
+      let all = preceded_by p.performs.taken end.0 in
+      let given : Given = record { wm = wm; last = last; names = a.names; coming = all } in
+      let P : Result Done Misdeed → Type 0 = λ o. MatchResult o (KeptActed s.templates wm last a.names all.fails) (EndsActions all.fails) in
+      let answer = (p.performs.performs end.0 (steady_comes a.inlet b.inlet end.0 p.reads end.1)).0 in
+      (subst P answer (acted_kept s a.port.out.column inst given)).built
+
+  -- What was made and built is held, where the rest was.
   pub whole_held : {b : Scene} (r : Acted) → Does (λ r d. acted_of r b.names d) failure_of is_read (Ok r) a b right_side → 0 < length a.names.held → list_all (rule_held (length a.names.held)) s.rules ≡ true
-      → list_all (element_held (length a.names.held)) wm ≡ true → list_all (change_held (length b.names.held)) r.changes ≡ true
-  whole_held {b = b} r p some rules memory =
+      → list_all (rule_held (length a.names.held)) s.templates ≡ true → list_all (element_held (length a.names.held)) wm ≡ true
+      → (list_all (change_held (length b.names.held)) r.changes ≡ true) × (list_all (rule_held (length b.names.held)) r.built ≡ true)
+  whole_held {b = b} r p some rules templates memory =
       let end = may_end b.inlet in
       let all = preceded_by p.performs.taken end.0 in
       let given : Given = record { wm = wm; last = last; names = a.names; coming = all } in
       let P : Result Done Misdeed → Type 0 = λ o. MatchResult o (HeldActed (length a.names.held)) Any in
       let answer = (p.performs.performs end.0 (steady_comes a.inlet b.inlet end.0 p.reads end.1)).0 in
-      (subst P answer (acted_held s a.port.out.column inst given some rules memory)).changes
+      let left = subst P answer (acted_held s a.port.out.column inst given some rules templates memory) in
+      (left.changes, left.built)

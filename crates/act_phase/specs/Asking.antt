@@ -85,6 +85,7 @@ command_asks (command.Back count) = false
 command_asks (command.Matches names) = false
 command_asks command.Exit = false
 
--- a right side of these productions contains it, or that of a production that these commands add
-abbrev pub session_asks : List Rule → List Command → Bool
-session_asks rules commands = program_asks rules || list_any command_asks commands
+-- a right side of these productions contains it, or that of a production that one of these templates gives, or that these
+-- commands add
+abbrev pub session_asks : List Rule → List Rule → List Command → Bool
+session_asks rules templates commands = program_asks rules || program_asks templates || list_any command_asks commands

@@ -1,13 +1,14 @@
--- Which symbols the names hold: those of values that a right side produces, and those of working memory. A symbol that
--- the names hold has a spelling.
+-- Which symbols the names hold: those of values and productions that a right side produces, and those of working memory.
+-- A symbol that the names hold has a spelling.
 use Rattle.std.specs.Prelude.{ℕ, ◌<◌, List, length, Bool, true, IsTrue}
 use Rattle.std.specs.List.{list_all}
 use Rattle.ops_base.specs.declared.elements.Element.{Element}
 use Rattle.ops_base.specs.declared.elements.Change.{Change}
 use Rattle.ops_base.specs.declared.elements.Change.TheVariants as change
 use Rattle.ops_base.specs.declared.programs.Program.{Program}
+use Rattle.ops_base.specs.declared.rules.Rule.{Rule}
 use Rattle.ops_base.specs.Names.{Spellings}
-use Rattle.ops_base.specs.Symbols.{value_held, is_held}
+use Rattle.ops_base.specs.Symbols.{value_held, rule_held, is_held}
 
 -- each symbol of the element is among the first `n`
 abbrev pub element_held : ℕ → Element → Bool
@@ -30,3 +31,7 @@ HoldsElements names wm = IsTrue (list_all (element_held (length names.held)) wm)
 -- The names hold each symbol of the elements that these changes make.
 abbrev pub HoldsMade : Spellings → List Change → Type 0
 HoldsMade names changes = IsTrue (list_all (change_held (length names.held)) changes)
+
+-- The names hold each symbol of these productions.
+abbrev pub HoldsRules : Spellings → List Rule → Type 0
+HoldsRules names rules = IsTrue (list_all (rule_held (length names.held)) rules)

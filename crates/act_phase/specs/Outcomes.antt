@@ -14,10 +14,11 @@ use Rattle.act_phase.specs.declared.outcome.ActionError.TheVariants as mishap
 
 -- the setting of a right side of the program at this trace level
 abbrev pub setting_of : Program → ℕ → Setting
-setting_of p watch = record { classes = p.classes; rules = p.rules; text = p.text; watch = watch }
+setting_of p watch = record { classes = p.classes; rules = p.rules; templates = p.templates; text = p.text; watch = watch }
 
 abbrev pub acted_of : Acted → Spellings → Coming → Meant
-acted_of a names coming = record { changes = a.changes; last = a.next_tag - 1; halted = a.halted; names = names; coming = coming }
+acted_of a names coming =
+    record { changes = a.changes; last = a.next_tag - 1; halted = a.halted; built = a.built; names = names; coming = coming }
 
 abbrev pub failure_of : ActFault → Failure Misdeed
 failure_of (fault.Bad action kind) = OfEffect (Bad action kind)

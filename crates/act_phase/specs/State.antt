@@ -5,6 +5,7 @@ use Rattle.ops_base.specs.declared.actions.Action.{Action}
 use Rattle.ops_base.specs.declared.elements.Element.{Element}
 use Rattle.ops_base.specs.declared.elements.Change.{Change}
 use Rattle.ops_base.specs.declared.matching.Binding.{Binding}
+use Rattle.ops_base.specs.declared.rules.Rule.{Rule}
 use Rattle.ops_base.specs.declared.values.Value.{Value}
 use Rattle.ops_io.specs.Coming.{Coming}
 use Rattle.ops_meaning.specs.Acting.{ActState as Meant, Setting, Valued, Filled, no_element, made_by}
@@ -15,13 +16,14 @@ use Rattle.act_phase.specs.declared.values.Values.{Values}
 use Rattle.act_phase.specs.declared.values.Values.TheVariants as values
 
 -- the setting of the right side, working memory and its changes so far, the bindings of the variables, the elements
--- that the cells hold, and whether a `halt` was done
+-- that the cells hold, whether a `halt` was done, and the productions that were built
 pub record State : Type 0 where
   pub setting : Setting
   pub working : Changed
   pub bindings : List Binding
   pub cells : List Element
   pub halted : Bool
+  pub built : List Rule
 
 -- the element that the change at this place adds
 abbrev pub made_at : List Change → ℕ → Element
@@ -55,6 +57,7 @@ doing_of d names coming =
       bindings = d.bindings;
       cells = d.cells;
       halted = d.halted;
+      built = d.built;
       names = names;
       coming = coming;
     }

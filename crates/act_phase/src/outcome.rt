@@ -9,15 +9,18 @@ use ops_base::elements::Change;
 use ops_base::endings::ActKind;
 use ops_base::list::Listed;
 use ops_base::memory::OutOfMemory;
+use ops_base::rules::Rule;
 use ops_io::WriteFailed;
 use thiserror::Error;
 
-/// What a right side did: the changes to working memory in order, whether it did `halt`, and the next tag.
+/// What a right side did: the changes to working memory in order, whether it did `halt`, the next tag, and the
+/// productions that it built, in the order of its `build` actions.
 #[derive(Drop)]
 pub struct Acted {
     pub changes: Listed<Change>,
     pub halted: bool,
     pub next_tag: u64,
+    pub built: Listed<Rule>,
 }
 
 /// Why a right side was not completed.

@@ -8,11 +8,11 @@ ghost use Rattle.ops_io.specs.Coming.{Coming, inlet};
 ghost use Rattle.ops_io.specs.Ports.{port};
 ghost use Rattle.ops_meaning.specs.Acting.{cell_of, removed, added, modified, bound, first_of, evaluated, made_fields, modified_fields, action_done, actions_done, in_action, acted, actions_of};
 ghost use Rattle.ops_meaning.specs.Effects.{PerformsOn, CountsReads, told_as, silent, followed_by};
-ghost use Rattle.ops_meaning.specs.Kept.{KeepsNames};
+ghost use Rattle.ops_meaning.specs.Kept.{AreFilledFrom, KeepsNames};
 ghost use Rattle.act_phase.specs.Asking.{action_asks, put_asks, right_side_asks, term_asks};
 ghost use Rattle.act_phase.specs.Changed.{GoesOnTo};
 ghost use Rattle.act_phase.specs.Deeds.{Acts, Does, scene};
-ghost use Rattle.act_phase.specs.Held.{HoldsProgram, HoldsElements, HoldsMade};
+ghost use Rattle.act_phase.specs.Held.{HoldsProgram, HoldsElements, HoldsMade, HoldsRules};
 ghost use Rattle.act_phase.specs.Outcomes.{setting_of, acted_of, failure_of, fails_by, is_read, is_read_mishap, is_unread};
 ghost use Rattle.act_phase.specs.State.{doing_of};
 
@@ -229,8 +229,7 @@ fn act_one<I: Source, K: Sink>(
             doing.halt();
             Ok(())
         }
-        // no source text is read as a `build` yet
-        Action::Build { .. } => Ok(()),
+        Action::Build { template, holes } => Ok(doing.build(*template, holes.as_slice())?),
     }
 }
 
@@ -340,10 +339,13 @@ pub fn act<I: Source, K: Sink>(
     // Each symbol keeps its spelling, even after a fault.
     ensures names { KeepsNames names.old names.new }
 
+    // Each production that it built is one of the program's templates, with other constants in the place of some.
+    ensures built { IfOk result (λ a. AreFilledFrom program.now.templates a.built) }
+
     // If the names hold each symbol of the program and of the store before the call, they still do after it, and they
-    // hold each symbol of the elements that the changes make.
+    // hold each symbol of the elements that the changes make, and of the productions that were built.
     ensures held { HoldsProgram names.old program.now → HoldsElements names.old store.now.elements
-        → HoldsProgram names.new program.now × HoldsElements names.new store.now.elements × IfOk result (λ a. HoldsMade names.new a.changes) }
+        → HoldsProgram names.new program.now × HoldsElements names.new store.now.elements × IfOk result (λ a. HoldsMade names.new a.changes × HoldsRules names.new a.built) }
 {
     // only the proof needs this: it reads the store to get at the store's invariant
     let last = store.last();

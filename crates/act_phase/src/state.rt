@@ -1,10 +1,11 @@
-//! `ActState`, the whole state between two actions: working memory, bindings, cells, and whether a `halt` was done.
+//! `ActState`, the whole state between two actions: working memory, bindings, cells, whether a `halt` was done, and the
+//! productions that were built.
 ghost use Rattle.std.specs.Prelude.{◌≡◌, ◌+◌, ◌-◌, ◌<◌, IfOk, OnOk, [], ◌∷◌, map, true, false, unwrap_or, length, slice_set, List};
 ghost use Rattle.std.specs.List.{list_all};
 ghost use Rattle.std.specs.Option.{option_copied};
 ghost use Rattle.ops_base.specs.Names.{Spellings};
 ghost use Rattle.ops_io.specs.Coming.{Coming};
-ghost use Rattle.ops_meaning.specs.Acting.{element_of, elements_of, conditions_of, begun, no_element, made_last, added, removed, modified, cell_bound, bound, left_by};
+ghost use Rattle.ops_meaning.specs.Acting.{element_of, elements_of, conditions_of, begun, no_element, made_last, added, removed, modified, cell_bound, bound, filled_from, fillings, rule_built, left_by};
 ghost use Rattle.act_phase.specs.Changed.{GoesOnTo};
 ghost use Rattle.act_phase.specs.Outcomes.{acted_of, setting_of};
 ghost use Rattle.act_phase.specs.State.{held_by, is_there, made_at, held_in, doing_of};
@@ -12,14 +13,16 @@ ghost use Rattle.act_phase.specs.State.{held_by, is_there, made_at, held_in, doi
 use crate::bindings::bindings_of;
 use crate::changed_memory::ChangedMemory;
 use crate::outcome::Acted;
+use ops_base::actions::Hole;
 use ops_base::conditions::Part;
 use ops_base::elements::{Change, Class, Element};
+use ops_base::filling::Filling;
 use ops_base::list::Listed;
-use ops_base::matching::Binding;
+use ops_base::matching::{Binding, bound_value};
 use ops_base::memory::OutOfMemory;
 use ops_base::programs::Program;
-use ops_base::rules::Inst;
-use ops_base::values::Value;
+use ops_base::rules::{Inst, Rule};
+use ops_base::values::{NOTHING, Value};
 use std::alloc::Global;
 use std::marker::Model;
 use work_store::Store;
@@ -43,6 +46,7 @@ pub(crate) struct ActState<'s> {
     bindings: Vec<Binding>,
     cells: Vec<Cell<'s>>,
     halted: bool,
+    built: Vec<Rule>,
 }
 
 impl<'s> Model for ActState<'s> {
@@ -63,6 +67,7 @@ impl<'s> Model for ActState<'s> {
       bindings = d.bindings.items;
       cells = map (held_by d.working.changes) d.cells.items;
       halted = d.halted;
+      built = d.built.items;
     } };
 
     ghost invariant = { λ d. list_all (is_there (length d.working.changes)) d.cells.items ≡ true };
@@ -122,6 +127,24 @@ fn last_made<'s>(changes: &[Change]) -> Cell<'s>
     Cell::Nothing
 }
 
+/// What the holes of a template are filled with: the values that these bindings give their variables.
+fn fillings(
+    alloc: Global,
+    bindings: &[Binding],
+    holes: &[Hole],
+) -> Result<Vec<Filling>, OutOfMemory>
+    ensures { IfOk result (λ v. v.items ≡ fillings bindings.now holes.now) }
+{
+    let mut fillings = Vec::with_capacity(alloc, holes.len())?;
+    for hole in holes {
+        fillings.push(Filling {
+            number: hole.number,
+            value: bound_value(bindings, hole.variable).unwrap_or(NOTHING),
+        })?;
+    }
+    Ok(fillings)
+}
+
 impl<'s> ActState<'s> {
     /// No action is done yet.
     pub(crate) fn new(
@@ -150,6 +173,7 @@ impl<'s> ActState<'s> {
             bindings,
             cells,
             halted: false,
+            built: Vec::new(alloc),
         })
     }
 
@@ -299,6 +323,23 @@ impl<'s> ActState<'s> {
         Ok(())
     }
 
+    /// Builds a production from the program's template with this number. Each hole becomes the value that its variable is
+    /// bound to now. If there is no such template, nothing is built.
+    pub(crate) fn build(&mut self, template: usize, holes: &[Hole]) -> Result<(), OutOfMemory>
+        ensures does { OnOk result ((names : Spellings) (coming : Coming)
+            → doing_of self.new names coming ≡ rule_built self.old.setting.templates template holes.now (doing_of self.old names coming)) }
+        ensures setting { self.new.setting ≡ self.old.setting }
+    {
+        let templates = self.program.templates.as_slice();
+        let Some(template) = templates.get(template) else {
+            return Ok(());
+        };
+        let fillings = fillings(self.alloc, self.bindings.as_slice(), holes)?;
+        let rule = template.fill(self.alloc, fillings.as_slice())?;
+        self.built.push(rule)?;
+        Ok(())
+    }
+
     pub(crate) fn finish(self) -> Acted
         ensures left { (names : Spellings) (coming : Coming) → acted_of result names coming ≡ left_by (doing_of self.entry names coming) }
         ensures positive { 0 < result.next_tag }
@@ -308,6 +349,7 @@ impl<'s> ActState<'s> {
             changes: Listed::from_vec(changes),
             halted: self.halted,
             next_tag,
+            built: Listed::from_vec(self.built),
         }
     }
 }

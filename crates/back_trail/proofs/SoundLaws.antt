@@ -140,7 +140,7 @@ lawful_append wm l (Remove t ∷ cs) ds p q = (p.0, lawful_append (without_tag t
 -- the same after a firing
 pub followed : (xs cs : List Change) (fired : List Inst) (s : Standing) → remade xs fired ≡ s → IsRemade xs fired → Lawful s.wm s.last cs → (i : Inst) (halted : Bool) (gone : List Inst)
     → (all : List Change) (marks : List Inst) → all ≡ xs ++ cs → marks ≡ without_gone gone (with_inst i fired)
-    → (remade all marks ≡ after_firing (record { inst = i; halted = halted; changes = cs; gone = gone }) s) × IsRemade all marks
+    → (remade all marks ≡ after_firing (record { inst = i; halted = halted; changes = cs; gone = gone; built = [] }) s) × IsRemade all marks
 followed xs cs fired s is kept lawful i halted gone all marks more left =
     (same, record { lawful = subst L (sym more) all_lawful; sound = subst S (sym same) sound })
   where
@@ -148,7 +148,7 @@ followed xs cs fired s is kept lawful i halted gone all marks more left =
     o = remade xs fired
 
     f : Fired
-    f = record { inst = i; halted = halted; changes = cs; gone = gone }
+    f = record { inst = i; halted = halted; changes = cs; gone = gone; built = [] }
 
     there : Lawful o.wm o.last cs
     there = let P : Standing → Type 0 = λ w. Lawful w.wm w.last cs in subst P (sym is) lawful

@@ -84,7 +84,7 @@ impl Remade {
         gone: &[Inst],
     ) -> Result<Remade, OutOfMemory>
         requires { Lawful self.wm self.last changes.now }
-        ensures { IfOk result (λ r. r ≡ after_firing (record { inst = inst.now; halted = false; changes = changes.now; gone = gone.now }) self) }
+        ensures { IfOk result (λ r. r ≡ after_firing (record { inst = inst.now; halted = false; changes = changes.now; gone = gone.now; built = [] }) self) }
     {
         let Remade {
             changes: all,

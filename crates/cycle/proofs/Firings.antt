@@ -85,15 +85,15 @@ module _ {M : Type 0} (stored : M → Stored) (s : Setting) (column : ℕ) (i : 
   lawfully : (z : Coming) → Keeps → IfOk (acts z).outcome (IsLawfulOver (stored h.matcher).elements (stored h.matcher).last)
   lawfully z well =
       let g = given_by (state_course stored h names z) in
-      ok_goes (KeptActed g.wm g.last g.names g.coming.fails) (IsLawfulOver g.wm g.last) (EndsActions g.coming.fails) (acted s column i g).outcome (acted_kept s column i g) (λ a p. p.lawful well)
+      ok_goes (KeptActed s.templates g.wm g.last g.names g.coming.fails) (IsLawfulOver g.wm g.last) (EndsActions g.coming.fails) (acted s column i g).outcome (acted_kept s column i g) (λ a p. p.lawful well)
 
   -- its phase has ended, with this course
   leaves_firing : (y : Acted) (new : Spellings) (p q : Inlet) (a b : Port) → LeavesOn (acted_of y new) p q a b acts → Keeps → Contains (insts_of h.index.members) i → (next : Coming → Course) → EndsPhase marked_state y.changes new next
-      → LeavesOn (λ z. let t : Turned = record { course = next z; halted = y.halted } in t) p q a b fires_of
+      → LeavesOn (λ z. let t : Turned = record { course = next z; halted = y.halted; built = y.built } in t) p q a b fires_of
   leaves_firing y new p q a b did well there next phase =
       record { taken = did.taken; took = did.took; steady = did.steady; leaves = λ z may. one z (preceded_by did.taken z) (did.leaves z may) }
     where
-      one : (z w : Coming) → Leaves (acted_of y new z) a b (acts w) → (let t : Turned = record { course = next z; halted = y.halted } in Leaves t a b (fires_of w))
+      one : (z w : Coming) → Leaves (acted_of y new z) a b (acts w) → (let t : Turned = record { course = next z; halted = y.halted; built = y.built } in Leaves t a b (fires_of w))
       one z w left =
           let x = acted_of y new z in
           let L : Result Meant Misdeed → Type 0 = λ o. IfOk o (IsLawfulOver (stored h.matcher).elements (stored h.matcher).last) in
@@ -115,7 +115,7 @@ module _ {M : Type 0} (stored : M → Stored) (s : Setting) (column : ℕ) (i : 
           ap (marks before) (sym lawful.last_tag)
           ∙ ap (λ f. record (marks before (last_after (stored h.matcher).last y.changes)) { fired = f }) (sym still)
           ∙ sym (phase z) in
-          let turned : Course → Turned = λ k. record { course = k; halted = y.halted } in
+          let turned : Course → Turned = λ k. record { course = k; halted = y.halted; built = y.built } in
           let P : Turned → Type 0 = λ t. Leaves t a b (fires_of w) in
           subst P (ap turned ended) (told_leaves (turned_of s.rules i (state_course stored h names w)) (ended_in (h.firings + 1) i.rule (rule_name s.rules i.rule)) x a b (acts w) left)
 
@@ -151,7 +151,7 @@ module _ {M : Type 0} (stored : M → Stored) (s : Setting) (column : ℕ) (i : 
 
       -- its phase has ended, from a state in which it is marked
       pub fires : {X : Type 0} {view : X → Coming → Turned} (r : X) → Keeps → Contains (insts_of h.index.members) w → (k : Held M) → k ≡ record h { index = record h.index { members = marked_members w h.index.members }; firings = h.firings + 1 } → (changes : List Change) → changes ≡ y.changes → (next : Coming → Course) → EndsPhase k changes new next
-          → ((z : Coming) → view r z ≡ record { course = next z; halted = y.halted }) → (let o : Result X ActFault = Ok r in PerformsOn view ends o p q a b fires_of)
+          → ((z : Coming) → view r z ≡ record { course = next z; halted = y.halted; built = y.built }) → (let o : Result X ActFault = Ok r in PerformsOn view ends o p q a b fires_of)
       fires {view = view} r well there k at changes all next phase tells =
           let P : (Coming → Turned) → Type 0 = λ t. LeavesOn t p q a b fires_of in
           let C : Inst → Type 0 = Contains (insts_of h.index.members) in

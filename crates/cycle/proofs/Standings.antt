@@ -147,12 +147,12 @@ lawful_over x y is tag next cs h =
     subst Q last (subst P is h)
 
 -- after its phase it has left what its changes, its mark and what is gone make of the state before it
-pub leaves : {M : Type 0} (stored : M → Stored) (h k s : Held M) (i : Inst) (halted : Bool) (changes : List Change) (gone : List Inst) (slice : List Change) → slice ≡ changes → (found : Finder)
+pub leaves : {M : Type 0} (stored : M → Stored) (h k s : Held M) (i : Inst) (halted : Bool) (built : List Rule) (changes : List Change) (gone : List Inst) (slice : List Change) → slice ≡ changes → (found : Finder)
     → k ≡ record h { index = record h.index { members = marked i h.index.members }; firings = h.firings + 1 } → fired_of k.index.members ≡ with_inst i (fired_of h.index.members)
     → ((names : Spellings) (coming : Coming) → state_course stored s names coming ≡ phase_by found slice k.firings (last_after (stored k.matcher).last slice) (state_course stored k names coming))
     → fired_of s.index.members ≡ without_gone gone (fired_of k.index.members)
-    → standing stored s ≡ after_firing (record { inst = i; halted = halted; changes = changes; gone = gone }) (standing stored h)
-leaves {M} stored h k s i halted changes gone slice are found at marks phase less =
+    → standing stored s ≡ after_firing (record { inst = i; halted = halted; changes = changes; gone = gone; built = built }) (standing stored h)
+leaves {M} stored h k s i halted built changes gone slice are found at marks phase less =
     let matcher : k.matcher ≡ h.matcher = ap (λ (w : Held M). w.matcher) at in
     let p = phase no_names no_input in
     let wm = ap (λ (m : Course). m.wm) p ∙ ap (λ (m : M). done (stored m).elements slice) matcher ∙ ap (λ cs. done (stored h.matcher).elements cs) are in

@@ -7,9 +7,9 @@ ghost use Rattle.ops_io.specs.Coming.{inlet};
 ghost use Rattle.ops_io.specs.Ports.{port};
 ghost use Rattle.ops_meaning.specs.Acting.{acted};
 ghost use Rattle.ops_meaning.specs.Effects.{PerformsOn, CountsReads};
-ghost use Rattle.ops_meaning.specs.Kept.{KeepsNames, WellKept};
+ghost use Rattle.ops_meaning.specs.Kept.{AreFilledFrom, KeepsNames, WellKept};
 ghost use Rattle.act_phase.specs.Asking.{right_side_asks};
-ghost use Rattle.act_phase.specs.Held.{HoldsProgram, HoldsElements, HoldsMade};
+ghost use Rattle.act_phase.specs.Held.{HoldsProgram, HoldsElements, HoldsMade, HoldsRules};
 ghost use Rattle.act_phase.specs.Outcomes.{acted_of, failure_of, is_unread, setting_of};
 ghost use Rattle.work_store.specs.Settling.{IsSettled};
 ghost use Rattle.cycle.specs.Settles.{Settles};
@@ -64,7 +64,8 @@ pub trait Actor<M: Matcher, I: Source, K: Sink> {
         ensures untouched { right_side_asks program.now.rules inst.now.rule ≡ false → (input.new ≡ input.old) × (source.new ≡ source.old) }
         ensures names { KeepsNames names.old names.new }
         ensures held { HoldsProgram names.old program.now → HoldsElements names.old (M.stored matcher).elements
-            → HoldsProgram names.new program.now × HoldsElements names.new (M.stored matcher).elements × IfOk result (λ r. HoldsMade names.new r.0.changes) }
+            → HoldsProgram names.new program.now × HoldsElements names.new (M.stored matcher).elements × IfOk result (λ r. HoldsMade names.new r.0.changes × HoldsRules names.new r.0.built) }
+        ensures built { IfOk result (λ r. AreFilledFrom program.now.templates r.0.built) }
         ensures lawful { IfOk result (λ r. Lawful (M.stored matcher).elements (M.stored matcher).last r.0.changes) }
         ensures elements { IfOk result (λ r. (M.stored r.1.matcher).elements ≡ done (M.stored matcher).elements r.0.changes) }
         ensures last { IfOk result (λ r. (M.stored r.1.matcher).last ≡ last_after (M.stored matcher).last r.0.changes) }

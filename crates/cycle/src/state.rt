@@ -11,12 +11,12 @@ ghost use Rattle.ops_io.specs.Coming.{Coming, inlet};
 ghost use Rattle.ops_io.specs.Ports.{port, PutsBytes};
 ghost use Rattle.ops_meaning.specs.Acting.{acted};
 ghost use Rattle.ops_meaning.specs.Effects.{PerformsOn, CountsReads, failure_as};
-ghost use Rattle.ops_meaning.specs.Kept.{KeepsNames, WellKept};
+ghost use Rattle.ops_meaning.specs.Kept.{AreFilledFrom, KeepsNames, WellKept};
 ghost use Rattle.ops_meaning.specs.Layout.{firing_bytes, rule_name};
 ghost use Rattle.ops_meaning.specs.Running.{ended_in, firing, next_to_fire, nothing_yet, phase_by};
 ghost use Rattle.work_store.specs.Settling.{IsSettled};
 ghost use Rattle.act_phase.specs.Asking.{right_side_asks};
-ghost use Rattle.act_phase.specs.Held.{HoldsProgram, HoldsElements, HoldsMade};
+ghost use Rattle.act_phase.specs.Held.{HoldsProgram, HoldsElements, HoldsMade, HoldsRules};
 ghost use Rattle.act_phase.specs.Outcomes.{acted_of, failure_of, is_unread, setting_of};
 ghost use Rattle.conflict_index.specs.Applying.{marked};
 ghost use Rattle.conflict_index.specs.Indexed.{insts_of, fired_of, nothing_indexed, waiting, KeepsSpecificities};
@@ -164,7 +164,8 @@ fn acted_by<M: Matcher, A: Actor<M, I, K>, I: Source, K: Sink>(
     ensures untouched { right_side_asks program.now.rules inst.now.rule ≡ false → (input.new ≡ input.old) × (source.new ≡ source.old) }
     ensures names { KeepsNames names.old names.new }
     ensures held { HoldsProgram names.old program.now → HoldsElements names.old (M.stored matcher).elements
-        → HoldsProgram names.new program.now × HoldsElements names.new (M.stored matcher).elements × IfOk result (λ r. HoldsMade names.new r.0.changes) }
+        → HoldsProgram names.new program.now × HoldsElements names.new (M.stored matcher).elements × IfOk result (λ r. HoldsMade names.new r.0.changes × HoldsRules names.new r.0.built) }
+    ensures built { IfOk result (λ r. AreFilledFrom program.now.templates r.0.built) }
     ensures lawful { IfOk result (λ r. Lawful (M.stored matcher).elements (M.stored matcher).last r.0.changes) }
     ensures elements { IfOk result (λ r. (M.stored r.1.matcher).elements ≡ done (M.stored matcher).elements r.0.changes) }
     ensures last { IfOk result (λ r. (M.stored r.1.matcher).last ≡ last_after (M.stored matcher).last r.0.changes) }
@@ -368,7 +369,8 @@ impl<M: Matcher> State<M> {
         ensures untouched { right_side_asks program.now.rules inst.now.rule ≡ false → (input.new ≡ input.old) × (source.new ≡ source.old) }
         ensures names { KeepsNames names.old names.new }
         ensures held { HoldsProgram names.old program.now → HoldsElements names.old (M.stored self.matcher).elements
-            → HoldsProgram names.new program.now × HoldsElements names.new (M.stored self.matcher).elements × IfOk result (λ r. HoldsMade names.new r.1.changes) }
+            → HoldsProgram names.new program.now × HoldsElements names.new (M.stored self.matcher).elements × IfOk result (λ r. HoldsMade names.new r.1.changes × HoldsRules names.new r.1.built) }
+        ensures built { IfOk result (λ r. AreFilledFrom program.now.templates r.1.built) }
         ensures lawful { IfOk result (λ r. Lawful (M.stored self.matcher).elements (M.stored self.matcher).last r.1.changes) }
         ensures course { IfOk result (λ r. (n : Spellings) (coming : Coming) → state_course M.stored r.0 n coming
             ≡ phase_by (conflict_set program.now.rules) r.1.changes self.firings (last_after (M.stored self.matcher).last r.1.changes) (state_course M.stored self n coming)) }
@@ -404,9 +406,10 @@ impl<M: Matcher> State<M> {
     }
 
     /// One firing: puts its line if firings are traced, marks the next instantiation, executes its right side, and then
-    /// settles once. Returns the state with what fired, whether a `halt` was done in it, its changes, and the
-    /// instantiations that are no longer found. What fires is looked up in the conflict set, and marked in place. After
-    /// a refusal the state is lost, and names may have been added; no contract states how far the input was read.
+    /// settles once. Returns the state with what fired, whether a `halt` was done in it, its changes, the instantiations
+    /// that are no longer found, and the productions that it built, which the program does not have yet. What fires is
+    /// looked up in the conflict set, and marked in place. After a refusal the state is lost, and names may have been
+    /// added; no contract states how far the input was read.
     pub fn fire<A: Actor<M, I, K>, I: Source, K: Sink>(
         self,
         alloc: Global,
@@ -429,7 +432,7 @@ impl<M: Matcher> State<M> {
         requires tags { (M.stored self.matcher).last < 2 ^ 63 }
         requires next { IsSome (next_to_fire program.now.rules (alone M.stored self)) }
         ensures performs { (i : Inst) → next_to_fire program.now.rules (alone M.stored self) ≡ Some i
-            → PerformsOn (λ r c. record { course = state_course M.stored r.0 names.new c; halted = r.1.halted })
+            → PerformsOn (λ r c. record { course = state_course M.stored r.0 names.new c; halted = r.1.halted; built = r.1.built })
             (λ f. failure_as (ended_in (self.firings + 1) i.rule (rule_name program.now.rules i.rule)) (failure_of f)) result
             (inlet input.old (I.left source.old) (I.faults source.old))
             (inlet input.new (I.left source.new) (I.faults source.new))
@@ -445,12 +448,15 @@ impl<M: Matcher> State<M> {
         ensures names { KeepsNames names.old names.new }
 
         // If the names hold each symbol of the program and of working memory before the call, they still do after it,
-        // and they hold each symbol of the new working memory.
+        // and they hold each symbol of the new working memory and of the productions that were built.
         ensures held { HoldsProgram names.old program.now → HoldsElements names.old (M.stored self.matcher).elements
             → HoldsProgram names.new program.now × HoldsElements names.new (M.stored self.matcher).elements
-            × IfOk result (λ r. HoldsElements names.new (M.stored r.0.matcher).elements) }
+            × IfOk result (λ r. HoldsElements names.new (M.stored r.0.matcher).elements × HoldsRules names.new r.1.built) }
         ensures stands { IfOk result (λ r. M.stands_for r.0.matcher program.now.rules) }
         ensures specificities { IfOk result (λ r. KeepsSpecificities program.now.rules r.0.index.members) }
+
+        // Each production that it built is one of the program's templates, with other constants in the place of some.
+        ensures built { IfOk result (λ r. AreFilledFrom program.now.templates r.1.built) }
 
         // What fired was the next instantiation. Its changes can be made in their order to the working memory before
         // it. These changes and `gone` determine the working memory, the marks and the last tag after it. `gone` is what
@@ -476,6 +482,7 @@ impl<M: Matcher> State<M> {
             halted: acted.halted,
             changes: acted.changes,
             gone,
+            built: acted.built,
         };
         Ok((state, fired))
     }

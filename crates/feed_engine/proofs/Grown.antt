@@ -180,7 +180,8 @@ module _ (before : List Change) (old : List Element) (given : ℕ) where
       (evaluated_grown s.classes t d p) (λ v q. grown_beside v.doing _ v.doing.cells v.doing.halted v.doing.names v.doing.coming q)
   action_grown s column (action.Cbind cell) d p = grown_beside d d.bindings _ d.halted d.names d.coming p
   action_grown s column action.Halt d p = grown_beside d d.bindings d.cells true d.names d.coming p
-  action_grown s column (action.Build template holes) d p = p
+  action_grown s column (action.Build template holes) d p =
+      record { lawful = p.lawful; memory = p.memory; last_tag = p.last_tag; more = p.more; grown = p.grown }
 
 -- nothing is done yet
 pub begun_grown : (s : Setting) (i : Inst) (g : Given) → IsGrown [] g.wm g.last (begun s i g)

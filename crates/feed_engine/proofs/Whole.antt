@@ -14,7 +14,7 @@ use Rattle.ops_base.specs.WorkingMemory.{Lawful, done, last_after, tags_of}
 use Rattle.ops_io.specs.Coming.{Coming}
 use Rattle.ops_meaning.specs.Acting.{Setting, ActState as Meant, Acted as Done, Misdeed, begun, left_by}
 use Rattle.ops_meaning.specs.Effects.{Effect}
-use Rattle.ops_meaning.specs.Kept.{WellKept}
+use Rattle.ops_meaning.specs.Kept.{AreFilledFrom, WellKept}
 use Rattle.act_phase.specs.Deeds.{Scene, Does}
 use Rattle.act_phase.specs.Excerpts.{IsExcerpt}
 use Rattle.act_phase.specs.Outcomes.{acted_of, failure_of, is_read}
@@ -24,7 +24,7 @@ use Rattle.act_phase.specs.declared.outcome.ActFault.{ActFault}
 use Rattle.act_phase.specs.declared.outcome.ActFault.TheVariants as fault
 use Rattle.act_phase.specs.Held.{element_held, change_held}
 use Rattle.act_phase.proofs.Enough.{excerpt_acts}
-use Rattle.act_phase.proofs.Steps.{right_side, whole_held, whole_lawful}
+use Rattle.act_phase.proofs.Steps.{right_side, whole_built, whole_held, whole_lawful}
 use Rattle.work_store.specs.Stored.{Stored}
 use Rattle.feed_engine.specs.declared.feed.Feed.{Feed}
 use Rattle.feed_engine.specs.Feeding.{GoesOver, IsFurther, IsUpTo}
@@ -97,9 +97,16 @@ made_lawful {X = X} s i wm last {a = a} (Ok r) p well = (whole_lawful s i wm las
 made_lawful s i wm last (Err f) p well = tt
 
 pub made_held : {X : Type 0} (s : Setting) (i : Inst) (wm : List Element) (last : ℕ) {a b : Scene} (r : Result (Acted × X) ActFault) → Does (λ r d. acted_of r.0 b.names d) failure_of is_read r a b (right_side s i wm last a) → 0 < length a.names.held
-    → list_all (rule_held (length a.names.held)) s.rules ≡ true → list_all (element_held (length a.names.held)) wm ≡ true → IfOk r (λ r. list_all (change_held (length b.names.held)) r.0.changes ≡ true)
-made_held {X = X} s i wm last {a = a} (Ok r) p some rules memory = whole_held s i wm last a r.0 (does_told {X = Acted × X} (λ r. r.0) p) some rules memory
-made_held s i wm last (Err f) p some rules memory = tt
+    → list_all (rule_held (length a.names.held)) s.rules ≡ true → list_all (rule_held (length a.names.held)) s.templates ≡ true → list_all (element_held (length a.names.held)) wm ≡ true
+    → IfOk r (λ r. (list_all (change_held (length b.names.held)) r.0.changes ≡ true) × (list_all (rule_held (length b.names.held)) r.0.built ≡ true))
+made_held {X = X} s i wm last {a = a} (Ok r) p some rules templates memory = whole_held s i wm last a r.0 (does_told {X = Acted × X} (λ r. r.0) p) some rules templates memory
+made_held s i wm last (Err f) p some rules templates memory = tt
+
+-- what was built are templates with other constants
+pub made_built : {X : Type 0} (s : Setting) (i : Inst) (wm : List Element) (last : ℕ) {a b : Scene} (r : Result (Acted × X) ActFault) → Does (λ r d. acted_of r.0 b.names d) failure_of is_read r a b (right_side s i wm last a)
+    → IfOk r (λ r. AreFilledFrom s.templates r.0.built)
+made_built {X = X} s i wm last {a = a} (Ok r) p = whole_built s i wm last a r.0 (does_told {X = Acted × X} (λ r. r.0) p)
+made_built s i wm last (Err f) p = tt
 
 -- ---- the start
 

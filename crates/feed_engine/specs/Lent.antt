@@ -12,9 +12,9 @@ use Rattle.ops_io.specs.Output.{OutState}
 use Rattle.ops_io.specs.Ports.{port}
 use Rattle.ops_meaning.specs.Acting.{acted}
 use Rattle.ops_meaning.specs.Effects.{PerformsOn, CountsReads}
-use Rattle.ops_meaning.specs.Kept.{KeepsNames, WellKept}
+use Rattle.ops_meaning.specs.Kept.{AreFilledFrom, KeepsNames, WellKept}
 use Rattle.act_phase.specs.Asking.{right_side_asks}
-use Rattle.act_phase.specs.Held.{HoldsProgram, HoldsElements, HoldsMade}
+use Rattle.act_phase.specs.Held.{HoldsProgram, HoldsElements, HoldsMade, HoldsRules}
 use Rattle.act_phase.specs.Outcomes.{acted_of, failure_of, is_unread, setting_of}
 use Rattle.act_phase.specs.declared.outcome.ActFault.{ActFault}
 use Rattle.act_phase.specs.declared.outcome.Acted.{Acted}
@@ -75,7 +75,8 @@ pub record ActsAs {M I K : Type 0} (m : Matching M) (s : Streams I K) (program :
   pub untouched : right_side_asks program.rules inst.rule ≡ false → (after.input ≡ before.input) × (after.source ≡ before.source)
   pub names_kept : KeepsNames before.names after.names
   pub held : HoldsProgram before.names program → HoldsElements before.names (m.stored matcher).elements
-      → HoldsProgram after.names program × HoldsElements after.names (m.stored matcher).elements × IfOk r (λ r. HoldsMade after.names r.0.changes)
+      → HoldsProgram after.names program × HoldsElements after.names (m.stored matcher).elements × IfOk r (λ r. HoldsMade after.names r.0.changes × HoldsRules after.names r.0.built)
+  pub built : IfOk r (λ r. AreFilledFrom program.templates r.0.built)
   pub lawful : IfOk r (λ r. Lawful (m.stored matcher).elements (m.stored matcher).last r.0.changes)
   pub elements : IfOk r (λ r. (m.stored r.1.matcher).elements ≡ done (m.stored matcher).elements r.0.changes)
   pub last : IfOk r (λ r. (m.stored r.1.matcher).last ≡ last_after (m.stored matcher).last r.0.changes)

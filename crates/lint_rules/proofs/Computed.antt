@@ -7,8 +7,8 @@ use Rattle.lint_rules.specs.SmallTexts.{SlipsAreFound, NoSlipIsFound}
 
 pub found : SlipsAreFound
 unfolding token_at is_operator is_whole is_fraction is_variable decimal
-found = (refl, refl, refl, refl, refl, refl, refl, refl)
+found = (refl, refl, refl, refl, refl, refl, refl, refl, refl, refl, refl, refl)
 
 pub none : NoSlipIsFound
 unfolding token_at is_operator is_whole is_fraction is_variable decimal
-none = (refl, refl, refl, refl, refl, refl, refl)
+none = (refl, refl, refl, refl, refl, refl, refl, refl, refl)

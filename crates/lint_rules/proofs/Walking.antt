@@ -14,7 +14,7 @@ use Rattle.lint_rules.specs.declared.slips.Warning.{Warning}
 use Rattle.lint_rules.specs.declared.walk.Before.{Before}
 use Rattle.lint_rules.specs.declared.walk.Before.TheVariants as before
 use Rattle.lint_rules.specs.declared.walk.Context.{Context}
-use Rattle.lint_rules.specs.Slips.{after, after_operator, after_symbol, is_literal, plain, slips_among, warnings_of}
+use Rattle.lint_rules.specs.Slips.{after, after_operator, after_head, after_plain_symbol, after_symbol, begins_build, marks_hole, is_literal, plain, slips_among, warnings_of}
 use Rattle.lint_rules.specs.Walks.{LiesWithin, StandsBefore}
 
 -- ---- the token that stands next
@@ -55,14 +55,25 @@ operator_depth c s =
     (choice_depth (bytes_eq s (codes "<<")) (record c { choice = c.conditions; before = before.Other }) _ n same
     (choice_depth (bytes_eq s (codes "-->")) (record c { conditions = c.conditions && c.choice; before = before.Other }) (plain c) n same same))))
 
-symbol_depth : (b : Before) (c : Context) (s : List ℕ) → (after_symbol b c s).depth ≤ c.depth + 1
-symbol_depth before.Bracket c s =
+head_depth : (c : Context) (s : List ℕ) → (after_head c s).depth ≤ c.depth + 1
+head_depth c s =
+    let n = c.depth + 1 in
     let same : c.depth ≤ c.depth + 1 = omega arith in
-    choice_depth (bytes_eq s (codes "p") && (c.depth == 1)) (record c { conditions = true; before = before.Production }) _ (c.depth + 1) same
-    (choice_depth (bytes_eq s (codes "write") && not c.conditions) (record c { write = c.depth; before = before.Other }) (plain c) (c.depth + 1) same same)
-symbol_depth before.Production c s = omega arith
-symbol_depth before.Literal c s = omega arith
-symbol_depth before.Other c s = omega arith
+    choice_depth (bytes_eq s (codes "p") && (c.depth == 1)) (record c { conditions = true; built = false; before = before.Production }) _ n same
+    (choice_depth (begins_build c s) (record c { conditions = true; built = true; before = before.Production }) _ n same
+    (choice_depth (bytes_eq s (codes "write") && not c.conditions) (record c { write = c.depth; before = before.Other }) (plain c) n same same))
+
+plain_symbol_depth : (b : Before) (c : Context) (s : List ℕ) → (after_plain_symbol b c s).depth ≤ c.depth + 1
+plain_symbol_depth before.Bracket c s = head_depth c s
+plain_symbol_depth before.Production c s = omega arith
+plain_symbol_depth before.Literal c s = omega arith
+plain_symbol_depth before.Hole c s = omega arith
+plain_symbol_depth before.Other c s = omega arith
+
+symbol_depth : (c : Context) (s : List ℕ) → (after_symbol c s).depth ≤ c.depth + 1
+symbol_depth c s =
+    let same : c.depth ≤ c.depth + 1 = omega arith in
+    choice_depth (marks_hole c s) (record c { before = before.Hole }) (after_plain_symbol c.before c s) (c.depth + 1) same (plain_symbol_depth c.before c s)
 
 -- a token opens one bracket at most
 pub one_bracket : (k : TokenKind) (c : Context) (s : List ℕ) → (after k c s).depth ≤ c.depth + 1
@@ -74,7 +85,7 @@ one_bracket kind.Caret c s = omega arith
 one_bracket kind.Operator c s = operator_depth c s
 one_bracket kind.Variable c s = omega arith
 one_bracket (kind.Whole n) c s = omega arith
-one_bracket kind.Symbol c s = symbol_depth c.before c s
+one_bracket kind.Symbol c s = symbol_depth c s
 one_bracket kind.Quoted c s = omega arith
 
 -- ---- how many slips are found

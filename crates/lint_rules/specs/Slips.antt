@@ -1,5 +1,5 @@
 -- The words of a text that are probably slips, judged by what comes before them.
-use Rattle.std.specs.Prelude.{ℕ, ◌+◌, ◌-◌, List, [], ◌∷◌, ◌++◌, codes, bytes_eq, Bool, true, false, not, ◌==◌, ◌&&◌, nat_lt, if◌then◌else◌, Option, Some, None}
+use Rattle.std.specs.Prelude.{ℕ, ◌+◌, ◌-◌, List, [], ◌∷◌, ◌++◌, codes, bytes_eq, Bool, true, false, not, ◌==◌, ◌&&◌, ◌||◌, nat_lt, if◌then◌else◌, Option, Some, None}
 use Rattle.ops_tokens.specs.declared.token.Token.{Token}
 use Rattle.ops_tokens.specs.declared.token.TokenKind.{TokenKind}
 use Rattle.ops_tokens.specs.declared.token.TokenKind.TheVariants as kind
@@ -16,13 +16,17 @@ use Rattle.lint_rules.specs.Spelled.{is_clips_variable, is_clips_test, is_joined
 -- ---- the context of a word
 
 abbrev pub at_start : Context
-at_start = record { depth = 0; conditions = false; write = 0; choice = false; before = before.Other }
+at_start = record { depth = 0; conditions = false; built = false; write = 0; choice = false; before = before.Other }
 
 abbrev pub is_literal : Before → Bool
 is_literal before.Literal = true
 is_literal _ = false
 
--- Neither a bracket nor `//` nor `p` comes right before it.
+abbrev pub is_hole : Before → Bool
+is_hole before.Hole = true
+is_hole _ = false
+
+-- Neither a bracket nor `//` nor `p` nor `build` nor the mark of a hole comes right before it.
 abbrev pub plain : Context → Context
 plain c = record c { before = before.Other }
 
@@ -34,6 +38,7 @@ after_right c =
     record {
       depth = c.depth - 1;
       conditions = c.conditions && nat_lt 1 c.depth;
+      built = c.built;
       write = if c.write == c.depth then 0 else c.write;
       choice = false;
       before = before.Other;
@@ -51,24 +56,36 @@ after_operator c s =
     else if bytes_eq s (codes "-->") then record c { conditions = c.conditions && c.choice; before = before.Other }
     else plain c
 
--- The first word of a form determines whether conditions follow its name, and the first word after a bracket outside
--- conditions determines whether values are written: among conditions, `write` is the name of a class.
+-- an action that builds a production: among conditions, `build` is the name of a class
+abbrev pub begins_build : Context → List ℕ → Bool
+begins_build c s = bytes_eq s (codes "build") && not c.conditions && (c.depth == 2)
+
+-- The first word of a form or of an action determines whether conditions follow its name, and the first word after a
+-- bracket outside conditions determines whether values are written: among conditions, `write` is the name of a class.
 abbrev pub after_head : Context → List ℕ → Context
 after_head c s =
-    if bytes_eq s (codes "p") && (c.depth == 1) then record c { conditions = true; before = before.Production }
+    if bytes_eq s (codes "p") && (c.depth == 1) then record c { conditions = true; built = false; before = before.Production }
+    else if begins_build c s then record c { conditions = true; built = true; before = before.Production }
     else if bytes_eq s (codes "write") && not c.conditions then record c { write = c.depth; before = before.Other }
     else plain c
 
-abbrev pub after_symbol : Before → Context → List ℕ → Context
-after_symbol before.Bracket c s = after_head c s
-after_symbol _ c s = plain c
+abbrev pub after_plain_symbol : Before → Context → List ℕ → Context
+after_plain_symbol before.Bracket c s = after_head c s
+after_plain_symbol _ c s = plain c
+
+-- Among the conditions of a production that is built, `\\` or `\` with the variable after it stands for a value.
+abbrev pub marks_hole : Context → List ℕ → Bool
+marks_hole c s = c.conditions && c.built && (bytes_eq s (codes "\\\\") || bytes_eq s (codes "\\"))
+
+abbrev pub after_symbol : Context → List ℕ → Context
+after_symbol c s = if marks_hole c s then record c { before = before.Hole } else after_plain_symbol c.before c s
 
 -- the context after a token of this kind and spelling
 abbrev pub after : TokenKind → Context → List ℕ → Context
 after kind.Left c s = after_left c
 after kind.Right c s = after_right c
 after kind.Operator c s = after_operator c s
-after kind.Symbol c s = after_symbol c.before c s
+after kind.Symbol c s = after_symbol c s
 after _ c s = plain c
 
 -- ---- which words are reported
@@ -84,9 +101,11 @@ slip_of_symbol c s =
     else if bytes_eq s (codes "crlf") && nat_lt 0 c.write && (c.write == c.depth) then Some slip.PlainCrlf
     else None
 
+-- the variable of a hole is none
 abbrev pub slip_of_variable : Context → List ℕ → Option Slip
 slip_of_variable c s =
-    if c.choice then Some slip.ChosenVariable
+    if is_hole c.before then None
+    else if c.choice then Some slip.ChosenVariable
     else if c.conditions && is_joined_variable s then Some slip.JoinedVariable
     else None
 

@@ -26,9 +26,14 @@ SlipsAreFound =
     × HasSlip (codes "(p r (a) --> (write \"hi there))") slip.QuotedString 1 21
     × HasSlip (codes "(p r (a) --> (write crlf))") slip.PlainCrlf 1 21
     × HasSlip (codes "(p r (a ^x << --> <y> >>) -->)") slip.ChosenVariable 1 19
+    × HasSlip (codes "(p r (a) --> (build s (a ^x ~red) -->))") slip.ClipsTest 1 29
+    × HasSlip (codes "(p r (a) --> (build s (a ^x << <y> >>) -->))") slip.ChosenVariable 1 32
+    × HasSlip (codes "(p r (a) --> (build s (a) --> (write crlf)))") slip.PlainCrlf 1 38
+    × HasSlip (codes "(p r (a ^x << \\ <y> >>) -->)") slip.ChosenVariable 1 17
 
 -- a literal, the name of a production, a class with the name of an action (including after a `-->` in a choice), a
--- `<<` that is written, and words used as intended
+-- `<<` that is written, the name of a production that is built and a class among its conditions, its holes, and words
+-- used as intended
 abbrev pub NoSlipIsFound : Type 0
 NoSlipIsFound =
     HasNone (codes "(p r (a ^x // ~red) -->)")
@@ -37,4 +42,6 @@ NoSlipIsFound =
     × HasNone (codes "(p r (a ^x << --> >>) (write ^x crlf) -->)")
     × HasNone (codes "(p r (a ^x <v>) --> (write << <v> >>))")
     × HasNone (codes "(p r (a ^x <u>) --> (write <<) (write <u>))")
+    × HasNone (codes "(p r (a) --> (build >0 (write ^x crlf) -->))")
+    × HasNone (codes "(p r (a ^x <v>) --> (build s (a ^x << \\\\ <v> >> ^y // \\ <v>) --> (write \\\\ <v>)))")
     × HasNone (codes "(p r (a ^x <x> ^y > 0 ^z << 1 2 >>) --> (write <x> |hi there| (crlf)))")

@@ -1,7 +1,7 @@
 //! The walk over the tokens of a text.
 ghost use Rattle.std.specs.Prelude.{◌≡◌, ◌<◌, ◌≤◌, ◌+◌, ◌^◌, ◌++◌, take, length, All, IfOk, OnOk};
 ghost use Rattle.ops_tokens.specs.Tokens.{spelling, LiesIn};
-ghost use Rattle.lint_rules.specs.Slips.{after_left, after_right, after_operator, after_head, after_symbol, after, slip_of_symbol, slip_of_variable, slip_by, slip_of, slips_of, plain, warnings_of};
+ghost use Rattle.lint_rules.specs.Slips.{after_left, after_right, after_operator, begins_build, after_head, after_plain_symbol, marks_hole, after_symbol, after, slip_of_symbol, slip_of_variable, slip_by, slip_of, slips_of, plain, warnings_of};
 ghost use Rattle.lint_rules.specs.Walks.{LiesWithin, StandsBefore};
 
 use crate::bytes::{
@@ -17,10 +17,12 @@ use std::alloc::Global;
 pub(crate) enum Before {
     /// An opening bracket.
     Bracket,
-    /// The `p` of a production.
+    /// The `p` of a production, or the `build` of one.
     Production,
     /// `//`
     Literal,
+    /// `\\` or `\`, among the conditions of a production that is built.
+    Hole,
     Other,
 }
 
@@ -31,6 +33,8 @@ pub(crate) struct Context {
     depth: usize,
     /// Whether it is among the conditions of a production.
     conditions: bool,
+    /// Whether the last conditions are those of a production that is built.
+    built: bool,
     /// How many brackets are open among the values of the `write` that is open, or 0.
     write: usize,
     /// Whether it is between `<<` and `>>`, among conditions.
@@ -66,6 +70,7 @@ fn after_right(context: Context) -> Context
     Context {
         depth: context.depth.saturating_sub(1),
         conditions: context.conditions && 1 < context.depth,
+        built: context.built,
         write: if closes_write { 0 } else { context.write },
         choice: false,
         before: Before::Other,
@@ -108,12 +113,27 @@ fn after_operator(context: Context, spelling: &[u8]) -> Context
     plain(context)
 }
 
+fn begins_build(context: Context, spelling: &[u8]) -> bool
+    ensures { result ≡ begins_build context spelling.now }
+{
+    is(spelling, b"build") && !context.conditions && context.depth == 2
+}
+
 fn after_head(context: Context, spelling: &[u8]) -> Context
     ensures { result ≡ after_head context spelling.now }
 {
     if is(spelling, b"p") && context.depth == 1 {
         return Context {
             conditions: true,
+            built: false,
+            before: Before::Production,
+            ..context
+        };
+    }
+    if begins_build(context, spelling) {
+        return Context {
+            conditions: true,
+            built: true,
             before: Before::Production,
             ..context
         };
@@ -128,12 +148,31 @@ fn after_head(context: Context, spelling: &[u8]) -> Context
     plain(context)
 }
 
-fn after_symbol(context: Context, spelling: &[u8]) -> Context
-    ensures { result ≡ after_symbol context.before context spelling.now }
+fn after_plain_symbol(context: Context, spelling: &[u8]) -> Context
+    ensures { result ≡ after_plain_symbol context.before context spelling.now }
 {
     match context.before {
         Before::Bracket => after_head(context, spelling),
         _ => plain(context),
+    }
+}
+
+fn marks_hole(context: Context, spelling: &[u8]) -> bool
+    ensures { result ≡ marks_hole context spelling.now }
+{
+    context.conditions && context.built && (is(spelling, b"\\\\") || is(spelling, b"\\"))
+}
+
+fn after_symbol(context: Context, spelling: &[u8]) -> Context
+    ensures { result ≡ after_symbol context spelling.now }
+{
+    if marks_hole(context, spelling) {
+        Context {
+            before: Before::Hole,
+            ..context
+        }
+    } else {
+        after_plain_symbol(context, spelling)
     }
 }
 
@@ -171,7 +210,9 @@ fn slip_of_symbol(context: Context, spelling: &[u8]) -> Option<Slip>
 fn slip_of_variable(context: Context, spelling: &[u8]) -> Option<Slip>
     ensures { result ≡ slip_of_variable context spelling.now }
 {
-    if context.choice {
+    if matches!(context.before, Before::Hole) {
+        None
+    } else if context.choice {
         Some(Slip::ChosenVariable)
     } else if context.conditions && is_joined_variable(spelling) {
         Some(Slip::JoinedVariable)
@@ -235,6 +276,7 @@ pub fn word_slips(alloc: Global, text: &[u8], most: usize) -> Result<Vec<Warning
     let mut context = Context {
         depth: 0,
         conditions: false,
+        built: false,
         write: 0,
         choice: false,
         before: Before::Other,

@@ -13,7 +13,7 @@ if_more P Q (Ok v) h f = f v h
 if_more P Q (Err e) h f = h
 
 pub read_is : (names : List (List ℕ)) (text : List ℕ) (parts : List Part) (read : Result Read Placed) (p : Read) (classes : List Class) (found : List Remark)
-    → read ≡ Ok p → classes ≡ p.classes → found ≡ remarks text p.classes p.rules p.commands
+    → read ≡ Ok p → classes ≡ p.classes → found ≡ remarks text p.classes p.rules p.templates p.commands
     → of_remarks names text parts p.names classes found ≡ of_read names text parts read
 read_is names text parts read p classes found is same finds =
     ap (λ cs. of_remarks names text parts p.names cs found) same ∙ ap (λ rs. of_remarks names text parts p.names p.classes rs) finds

@@ -34,12 +34,12 @@ merged rs (s ∷ ss) = up_to (at_of s) rs ++ s ∷ merged (beyond (at_of s) rs) 
 
 -- the warnings of productions: those that have the same conditions as an earlier one, what they ask for in vain, and
 -- their unused variables
-abbrev pub of_program : List ℕ → List Class → List Rule → List Command → List Remark
-of_program text classes rules commands =
-    merged (merged (map remark.Twin (twins rules)) (map remark.Asked (lacking classes rules commands)))
+abbrev pub of_program : List ℕ → List Class → List Rule → List Rule → List Command → List Remark
+of_program text classes rules templates commands =
+    merged (merged (map remark.Twin (twins rules)) (map remark.Asked (lacking classes rules templates commands)))
     (map remark.Lone (lone text rules commands))
 
 -- the first warnings of a text that is this program
-abbrev pub remarks : List ℕ → List Class → List Rule → List Command → List Remark
-remarks text classes rules commands =
-    take MOST_WARNINGS (merged (of_program text classes rules commands) (map remark.Word (take MOST_WARNINGS (slips_of text))))
+abbrev pub remarks : List ℕ → List Class → List Rule → List Rule → List Command → List Remark
+remarks text classes rules templates commands =
+    take MOST_WARNINGS (merged (of_program text classes rules templates commands) (map remark.Word (take MOST_WARNINGS (slips_of text))))

@@ -101,7 +101,7 @@ of_remarks names text parts held classes rs =
 
 -- a text without a fault is a program
 abbrev pub of_read : List (List ℕ) → List ℕ → List Part → Result Read Placed → Reply
-of_read names text parts (Ok p) = of_remarks names text parts p.names p.classes (remarks text p.classes p.rules p.commands)
+of_read names text parts (Ok p) = of_remarks names text parts p.names p.classes (remarks text p.classes p.rules p.templates p.commands)
 of_read names text parts (Err f) = record { bytes = []; status = status.Clean }
 
 abbrev pub reply_by : List (List ℕ) → List ℕ → List Part → List PlacedFault → Reply

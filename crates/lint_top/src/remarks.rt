@@ -114,7 +114,7 @@ fn of_lone(alloc: Global, named: &[Named]) -> Result<Vec<Remark>, OutOfMemory>
 
 /// The warnings of the productions of a program.
 fn of_program(alloc: Global, program: &Program) -> Result<Vec<Remark>, OutOfMemory>
-    ensures { IfOk result (λ v. v.items ≡ of_program program.now.text program.now.classes program.now.rules program.now.commands) }
+    ensures { IfOk result (λ v. v.items ≡ of_program program.now.text program.now.classes program.now.rules program.now.templates program.now.commands) }
 {
     let twins = of_twins(alloc, &twins(alloc, program)?)?;
     let asks = of_asks(alloc, &lacking(alloc, program)?)?;
@@ -125,7 +125,7 @@ fn of_program(alloc: Global, program: &Program) -> Result<Vec<Remark>, OutOfMemo
 
 /// The first warnings of a program, in text order.
 pub(crate) fn remarks_of(alloc: Global, program: &Program) -> Result<Vec<Remark>, OutOfMemory>
-    ensures { IfOk result (λ v. v.items ≡ remarks program.now.text program.now.classes program.now.rules program.now.commands) }
+    ensures { IfOk result (λ v. v.items ≡ remarks program.now.text program.now.classes program.now.rules program.now.templates program.now.commands) }
 {
     let found = of_program(alloc, program)?;
     let words = word_slips(alloc, program.text.as_slice(), MOST_WARNINGS)?;

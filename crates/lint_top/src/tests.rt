@@ -1,5 +1,5 @@
-//! The lines of a page with fifteen slips, that its corrected page has none, and a program with one slip of each
-//! kind.
+//! The lines of a page with fifteen slips, that its corrected page has none, a program with one slip of each kind, and
+//! one that builds a production.
 
 use crate::lint::lint_run;
 use crate::statuses::LintStatus;
@@ -80,6 +80,21 @@ page:5:1: warning: five has the conditions of four
 page:5:26: warning: ?x is a symbol: a variable is written <name>
 ";
 
+const BUILDS: &[u8] =
+    b"(p one (part ^name <n> ^color red) --> (build two (part ^size << 1 \\\\ <n> >> ^color ~red) (box) -->
+  (make part ^size 3)))
+(p three (part ^size 4 ^color blue) --> (remove 1))
+(make part ^color red)
+(pbreak two)
+(run)
+";
+
+const BUILD_WARNINGS: &[u8] =
+    b"page:1:40: warning: condition 2 looks for an element of box, and nothing makes one
+page:1:85: warning: ~red is a symbol: the test is written as <> and a space before the value
+page:3:1: warning: condition 1 looks for blue in ^color of part, and nothing puts it there
+";
+
 fn add_file(
     alloc: Global,
     files: &mut Vec<(String, Vec<u8>)>,
@@ -126,6 +141,14 @@ fn the_mended_page_is_clean(rt: HostRuntime) -> Result<(), Fail> {
 fn warnings_are_in_order(rt: HostRuntime) -> Result<(), Fail> {
     let (sink, status) = said_of(rt.alloc(), PROGRAM)?;
     assert!(rt; sink.written() == WARNINGS);
+    assert!(rt; status == LintStatus::Warned);
+    Ok(())
+}
+
+#[test]
+fn builds_are_looked_at(rt: HostRuntime) -> Result<(), Fail> {
+    let (sink, status) = said_of(rt.alloc(), BUILDS)?;
+    assert!(rt; sink.written() == BUILD_WARNINGS);
     assert!(rt; status == LintStatus::Warned);
     Ok(())
 }

@@ -1,3 +1,4 @@
 pub mod Numbers
 pub mod Valid
 pub mod Placed
+pub mod Filled

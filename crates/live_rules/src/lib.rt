@@ -6,5 +6,5 @@ mod moved;
 mod renewing;
 
 pub use live::{Live, rule_named, without_any};
-pub use moved::Moved;
+pub use moved::{Moved, place_beside};
 pub use renewing::{fed, renew};

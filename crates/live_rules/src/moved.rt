@@ -1,10 +1,13 @@
 //! The new numbers of productions.
 ghost use Rattle.std.specs.Prelude.{◌≡◌, IfOk, length, option_and_then};
 ghost use Rattle.ops_base.specs.Live.{moved};
+ghost use Rattle.ops_meaning.specs.Running.{place_beside};
 ghost use Rattle.live_rules.specs.Moves.{place_of, places_moved, places_moved_any, unmoved};
 
+use crate::live::rule_named;
 use ops_base::memory::OutOfMemory;
 use ops_base::programs::Program;
+use ops_base::rules::Rule;
 use std::alloc::Global;
 use std::marker::Model;
 
@@ -33,6 +36,17 @@ fn place_moved(gone: usize, place: Option<usize>) -> Option<usize>
         None
     } else {
         Some(number - 1)
+    }
+}
+
+/// The number of a production after this one is added to these, if it had a number, or `None` if it is removed because it
+/// has the same name.
+pub fn place_beside(rules: &[Rule], rule: &Rule, place: Option<usize>) -> Option<usize>
+    ensures { result ≡ place_beside rules.now rule.now place }
+{
+    match rule_named(rules, rule.name) {
+        Some(gone) => place_moved(gone, place),
+        None => place,
     }
 }
 

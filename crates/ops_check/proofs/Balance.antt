@@ -1,5 +1,5 @@
 -- Brackets: the words of a form that is closed do not end too early, and those of a form that is open do not end.
-use Rattle.std.proofs.Common.{◌≡◌, ℕ, ◌+◌, ◌-◌, ◌≤◌, Bool, true, false, cond, not, ◌&&◌, ◌||◌, ◌==◌, List, [], ◌∷◌, length, Option, Some, None, Result, Ok, Err, refl, sym, ap, subst, ◌∙◌, arith, true≢false, position, slice_get, nat_lt, nat_le}
+use Rattle.std.proofs.Common.{◌≡◌, ℕ, ◌+◌, ◌-◌, ◌≤◌, Bool, true, false, cond, if◌then◌else◌, not, ◌&&◌, ◌||◌, ◌==◌, List, [], ◌∷◌, length, Option, Some, None, Result, Ok, Err, refl, sym, ap, subst, ◌∙◌, arith, true≢false, position, slice_get, nat_lt, nat_le}
 use Rattle.std.proofs.lemmas.Bool.{and_parts, cond_both, eqb-true, eqb-false, not-true}
 use Rattle.ops_base.specs.Names.{Spellings}
 use Rattle.ops_base.specs.declared.values.Sym.{Sym}
@@ -16,12 +16,13 @@ use Rattle.ops_base.specs.Valid.{most_fields, most_conditions, elements_of, clas
 use Rattle.ops_tokens.specs.declared.token.Token.{Token}
 use Rattle.ops_tokens.specs.declared.token.TokenKind.{TokenKind}
 use Rattle.ops_tokens.specs.declared.token.TokenKind.TheVariants as kind
-use Rattle.ops_tokens.specs.Tokens.{spelling}
+use Rattle.ops_tokens.specs.Tokens.{is_quoted, spelling}
 use Rattle.ops_grammar.specs.declared.words.Word.{Word}
 use Rattle.ops_grammar.specs.declared.words.Keyword.{Keyword}
 use Rattle.ops_grammar.specs.declared.words.Keyword.TheVariants as keyword
-use Rattle.ops_grammar.specs.Words.{keyword_of, names_with, word_of, keyword_before, word_before, words_from}
-use Rattle.ops_grammar.specs.Grammar.{Use, InPattern, InPut, InFixed, Target, ToPut, ToTerms, ToConstants, ToItem, ToBind, TagUse, ToRemove, NameUse, Column, Wanted, Forms, Form, ClassDeclared, Attributes, VectorName, VectorNames, RuleName, FirstPattern, Patterns, Pattern, GroupBrace, Members, Braced, ElementName, ClosesBrace, ClassName, Terms, Attribute, Several, Place, Tests, Tested, Choice, Atom, ValueFor, Function, ExpressionUnit, ExpressionRest, Bracketed, SourceCell, SourceAttribute, SourceEnd, Actions, ActionWord, Modified, BoundName, BoundValue, CellName, Cell, Cells, Items, ItemWord, Columns, Count, StrategyName, TagOrAll, Tags, Shown, NamedRule, NamedRules, Level, Undone, Closes, State, Step, Next, Refuses, Outcome, is_left, is_right, is_left_brace, is_right_brace, is_caret, is_name, is_variable, is_arrow, is_literal, is_minus, begins_group, has_room, opens_choice, closes_choice, pred_of, constant_of, value_of, atom_of, is_one_of, number_of, bound_value, EndsWhole, may_declare, is_class, is_rule, is_second, makes_second, vector_declared, vector_name, form, class_at, attributes_of, behind_attribute, field_at, terms, within, one_of_several, with_several, place, element_at, element_name, cell_bound, variable_tested, constant_tested, tested, predicated, test, chosen, atom_at, term_at, bound_at, constant_at, is_of_action, value_for, Waiting, most_brackets, is_compute, operation_of, unit_bound, unit_at, bracket_at, expression_unit, bracketed, operation_at, expression_ended, with_formula, no_formula, expression_rest, completed, function, source_named, source_cell, source_class, source_at, source_attribute, takes_several, is_inf, ends_at_inf, source_end, action_word, cell_of, with_designated, with_modified, small_of, item_word, columns_at, count_of, counted, count, strategy_of, strategy_set, strategy_name, is_all, tag_at, tag_or_all, tags, class_name, shown, named_rule, named_rules, level_of, undone_of, level_set, undone_set, level, undone, step, ends, after, goes}
+use Rattle.ops_grammar.specs.Words.{keyword_of, keyword_in, is_joined, hole_in, names_with, word_of, keyword_before, word_before, words_from}
+use Rattle.ops_grammar.specs.Grammar.{Use, InPattern, InPut, InFixed, Target, ToTest, ToPut, ToTerms, ToConstants, ToItem, ToBind, TagUse, ToRemove, NameUse, Column, Wanted, Forms, Form, ClassDeclared, Attributes, VectorName, VectorNames, RuleName, FirstPattern, Patterns, Pattern, GroupBrace, Members, Braced, ElementName, ClosesBrace, ClassName, Terms, Attribute, Several, Place, Tests, Tested, Choice, Atom, ValueFor, Function, ExpressionUnit, ExpressionRest, Bracketed, SourceCell, SourceAttribute, SourceEnd, Actions, ActionWord, BuiltName, Modified, BoundName, BoundValue, CellName, Cell, Cells, Items, ItemWord, Columns, Count, StrategyName, TagOrAll, Tags, Shown, NamedRule, NamedRules, Level, Undone, Closes, State, Step, Next, Refuses, Outcome, is_left, is_right, is_left_brace, is_right_brace, is_caret, is_name, is_variable, is_arrow, is_literal, is_minus, begins_group, has_room, opens_choice, closes_choice, pred_of, constant_of, value_of, atom_of, is_one_of, number_of, bound_value, EndsWhole, may_declare, is_class, is_rule, is_second, makes_second, vector_declared, vector_name, form, class_at, attributes_of, behind_attribute, field_at, terms, within, one_of_several, with_several, place, element_at, element_name, cell_bound, variable_tested, constant_tested, tested, predicated, test, constant_by, with_constant, with_choice_of, chosen, atom_at, term_at, bound_at, constant_at, is_of_action, value_for, Waiting, most_brackets, is_compute, operation_of, unit_bound, unit_at, bracket_at, expression_unit, bracketed, operation_at, expression_ended, with_formula, no_formula, expression_rest, completed, function, source_named, source_cell, source_class, source_at, source_attribute, takes_several, is_inf, ends_at_inf, source_end, action_word, cell_of, with_designated, with_modified, small_of, item_word, columns_at, count_of, counted, count, strategy_of, strategy_set, strategy_name, is_all, tag_at, tag_or_all, tags, class_name, shown, named_rule, named_rules, level_of, undone_of, level_set, undone_set, level, undone, step, ends, after, goes}
+use Rattle.ops_grammar.proofs.Constants.{constant_cases}
 use Rattle.ops_forms.specs.Forms.{open_behind, is_last, closes_last, stays_open, opens}
 
 -- ---- what is owed
@@ -34,12 +35,12 @@ owes VectorNames = true
 owes (Terms u) = true
 owes (Attribute u) = true
 owes (Several u f) = true
-owes Actions = true
+owes (Actions built) = true
 owes (Function t) = true
 owes (ExpressionRest d waiting into) = true
 owes (Bracketed d) = true
 owes (SourceAttribute t) = true
-owes ActionWord = true
+owes (ActionWord built) = true
 owes BoundValue = true
 owes Cells = true
 owes Items = true
@@ -85,8 +86,8 @@ in_form_owes (VectorNames ∷ ws) i h = omega arith
 in_form_owes (Terms u ∷ ws) i h = omega arith
 in_form_owes (Attribute u ∷ ws) i h = omega arith
 in_form_owes (Several u f ∷ ws) i h = omega arith
-in_form_owes (Actions ∷ ws) i h = omega arith
-in_form_owes (ActionWord ∷ ws) i h = omega arith
+in_form_owes (Actions built ∷ ws) i h = omega arith
+in_form_owes (ActionWord built ∷ ws) i h = omega arith
 in_form_owes (BoundValue ∷ ws) i h = omega arith
 in_form_owes (Function t ∷ ws) i h = omega arith
 in_form_owes (ExpressionRest d waiting into ∷ ws) i h = omega arith
@@ -106,6 +107,7 @@ in_form_owes (Undone ∷ ws) i h = omega arith
 in_form_owes (Closes e ∷ ws) i h = omega arith
 in_form_owes (ClassDeclared ∷ ws) i h = let p = and_parts (in_form ws) (stands ws) h in in_form_owes ws p.0 p.1
 in_form_owes (VectorName ∷ ws) i h = let p = and_parts (in_form ws) (stands ws) h in in_form_owes ws p.0 p.1
+in_form_owes (BuiltName ∷ ws) i h = let p = and_parts (in_form ws) (stands ws) h in in_form_owes ws p.0 p.1
 in_form_owes (RuleName ∷ ws) i h = let p = and_parts (in_form ws) (stands ws) h in in_form_owes ws p.0 p.1
 in_form_owes (FirstPattern ∷ ws) i h = let p = and_parts (in_form ws) (stands ws) h in in_form_owes ws p.0 p.1
 in_form_owes (Patterns ∷ ws) i h = let p = and_parts (in_form ws) (stands ws) h in in_form_owes ws p.0 p.1
@@ -251,6 +253,10 @@ all_known : (k : Keyword) → is_all k ≡ true → k ≡ keyword.Other → ⊥
 all_known keyword.Times e o = absurd (cc)
 all_known _ e o = absurd (true≢false (sym e))
 
+quoted_keeps : (k : TokenKind) (n : ℕ) → is_quoted k ≡ true → open_behind n k ≡ n
+quoted_keeps kind.Quoted n e = refl
+quoted_keeps _ n e = absurd (true≢false (sym e))
+
 keyword_keeps : (k : TokenKind) (s : List ℕ) (n : ℕ) → (keyword_of k s ≡ keyword.Other → ⊥) → open_behind n k ≡ n
 keyword_keeps kind.Symbol s n e = refl
 keyword_keeps kind.Operator s n e = refl
@@ -292,15 +298,17 @@ module _ (w : Word) (quiet : (n : ℕ) → (w.keyword ≡ keyword.Other → ⊥)
   form_balanced keyword.Exit ws s e h = (h, sym (quiet (1 + owed ws) (λ o. absurd (cc))))
   form_balanced _ ws s e h = tt
 
-  action_word_balanced : (k : Keyword) (ws : List Wanted) (s : State) → w.keyword ≡ k → stands ws ≡ true → B (ActionWord ∷ ws) (action_word k ws s)
-  action_word_balanced keyword.Make ws s e h = (h, sym (quiet (1 + owed ws) (λ o. absurd (cc))))
-  action_word_balanced keyword.Remove ws s e h = (h, sym (quiet (1 + owed ws) (λ o. absurd (cc))))
-  action_word_balanced keyword.Modify ws s e h = (h, sym (quiet (1 + owed ws) (λ o. absurd (cc))))
-  action_word_balanced keyword.Write ws s e h = (h, sym (quiet (1 + owed ws) (λ o. absurd (cc))))
-  action_word_balanced keyword.Bind ws s e h = (h, sym (quiet (1 + owed ws) (λ o. absurd (cc))))
-  action_word_balanced keyword.Cbind ws s e h = (h, sym (quiet (1 + owed ws) (λ o. absurd (cc))))
-  action_word_balanced keyword.Halt ws s e h = (h, sym (quiet (1 + owed ws) (λ o. absurd (cc))))
-  action_word_balanced _ ws s e h = tt
+  action_word_balanced : (b : Bool) (k : Keyword) (ws : List Wanted) (s : State) → w.keyword ≡ k → stands ws ≡ true → B (ActionWord b ∷ ws) (action_word b k ws s)
+  action_word_balanced b keyword.Make ws s e h = (h, sym (quiet (1 + owed ws) (λ o. absurd (cc))))
+  action_word_balanced b keyword.Remove ws s e h = (h, sym (quiet (1 + owed ws) (λ o. absurd (cc))))
+  action_word_balanced b keyword.Modify ws s e h = (h, sym (quiet (1 + owed ws) (λ o. absurd (cc))))
+  action_word_balanced b keyword.Write ws s e h = (h, sym (quiet (1 + owed ws) (λ o. absurd (cc))))
+  action_word_balanced b keyword.Bind ws s e h = (h, sym (quiet (1 + owed ws) (λ o. absurd (cc))))
+  action_word_balanced b keyword.Cbind ws s e h = (h, sym (quiet (1 + owed ws) (λ o. absurd (cc))))
+  action_word_balanced b keyword.Halt ws s e h = (h, sym (quiet (1 + owed ws) (λ o. absurd (cc))))
+  action_word_balanced true keyword.Build ws s e h = tt
+  action_word_balanced false keyword.Build ws s e h = (h, sym (quiet (1 + owed ws) (λ o. absurd (cc))))
+  action_word_balanced b _ ws s e h = tt
 
   named : (ws : List Wanted) → is_name w.kind ≡ true → owed ws ≡ open_behind (owed ws) w.kind
   named ws e = sym (name_keeps w.kind (owed ws) e)
@@ -341,13 +349,17 @@ module _ (w : Word) (quiet : (n : ℕ) → (w.keyword ≡ keyword.Other → ⊥)
 
   -- ---- tests and values
 
+  -- a constant is what it is without its hole
+  held : (k : Keyword) (ws : List Wanted) (f : State → State) (s : State) (n : ℕ) → (stands ws ≡ true) × (owed ws ≡ n) → Balanced n (constant_by k (λ t. Next ws (f t)) s)
+  held k ws f s n h = constant_cases k (λ t. Next ws (f t)) s (Balanced n) (λ _. tt) h (λ _ _ _. h)
+
   variable_tested_balanced : (f : ℕ) (p : Pred) (o : Option ℕ) (ws : List Wanted) (s : State) → is_variable w.kind ≡ true → stands ws ≡ true → B ws (variable_tested f p o w.name ws s)
   variable_tested_balanced f p (Some n) ws s e h = (h, sym (variable_keeps w.kind (owed ws) e))
   variable_tested_balanced f pred.Eq None ws s e h = (h, sym (variable_keeps w.kind (owed ws) e))
   variable_tested_balanced f _ None ws s e h = tt
 
   constant_tested_balanced : (f : ℕ) (p : Pred) (o : Option Value) (ws : List Wanted) (s : State) → constant_of w.kind w.name ≡ o → stands ws ≡ true → B ws (constant_tested f p w o ws s)
-  constant_tested_balanced f p (Some v) ws s e h = (h, sym (constant_keeps w.kind w.name v (owed ws) e))
+  constant_tested_balanced f p (Some v) ws s e h = held w.keyword ws (λ t. with_constant (ToTest f p) t v) s _ (h, sym (constant_keeps w.kind w.name v (owed ws) e))
   constant_tested_balanced f p None ws s e h =
       cond_both (is_variable w.kind) _ _ (B ws) (λ is. variable_tested_balanced f p (number_of w.name s.values) ws s is h) (λ _. tt)
 
@@ -365,12 +377,12 @@ module _ (w : Word) (quiet : (n : ℕ) → (w.keyword ≡ keyword.Other → ⊥)
       cond_both (opens_choice w.keyword) _ _ (B ws) (λ e. (h, sym (quiet (owed ws) (opening_known w.keyword e))))
       (λ _. predicated_balanced f (pred_of w.keyword) ws s refl h)
 
-  chosen_balanced : (f : ℕ) (o : Option Value) (ws : List Wanted) (s : State) → atom_of w.kind w.name ≡ o → stands ws ≡ true → B ws (chosen o ws s)
-  chosen_balanced f (Some v) ws s e h = (h, sym (atom_keeps w.kind w.name v (owed ws) e))
+  chosen_balanced : (f : ℕ) (o : Option Value) (ws : List Wanted) (s : State) → atom_of w.kind w.name ≡ o → stands ws ≡ true → B ws (chosen w.keyword o ws s)
+  chosen_balanced f (Some v) ws s e h = held w.keyword ws (λ t. with_choice_of t v) s _ (h, sym (atom_keeps w.kind w.name v (owed ws) e))
   chosen_balanced f None ws s e h = tt
 
-  atom_balanced : (t : Target) (o : Option Value) (ws : List Wanted) (s : State) → atom_of w.kind w.name ≡ o → stands ws ≡ true → B ws (atom_at t o ws s)
-  atom_balanced t (Some v) ws s e h = (h, sym (atom_keeps w.kind w.name v (owed ws) e))
+  atom_balanced : (t : Target) (o : Option Value) (ws : List Wanted) (s : State) → atom_of w.kind w.name ≡ o → stands ws ≡ true → B ws (atom_at t w.keyword o ws s)
+  atom_balanced t (Some v) ws s e h = held w.keyword ws (λ r. with_constant t r v) s _ (h, sym (atom_keeps w.kind w.name v (owed ws) e))
   atom_balanced t None ws s e h = tt
 
   term_balanced : (t : Target) (x : Term) (n : ℕ) (ws : List Wanted) (s : State) → stands ws ≡ true → owed ws ≡ n → Balanced n (term_at t x ws s)
@@ -385,7 +397,7 @@ module _ (w : Word) (quiet : (n : ℕ) → (w.keyword ≡ keyword.Other → ⊥)
   bound_balanced t None ws s e h = tt
 
   constant_balanced : (t : Target) (o : Option Value) (ws : List Wanted) (s : State) → value_of w.kind w.name ≡ o → stands ws ≡ true → B ws (constant_at t w o ws s)
-  constant_balanced t (Some v) ws s e h = (h, sym (value_keeps w.kind w.name v (owed ws) e))
+  constant_balanced t (Some v) ws s e h = held w.keyword ws (λ r. with_constant t r v) s _ (h, sym (value_keeps w.kind w.name v (owed ws) e))
   constant_balanced t None ws s e h = cond_both (is_variable w.kind) _ _ (B ws) (λ is. bound_balanced t (number_of w.name s.values) ws s is h) (λ _. tt)
 
   value_balanced : (t : Target) (ws : List Wanted) (s : State) → (in_form ws && stands ws) ≡ true → B ws (value_for t w ws s)
@@ -658,10 +670,12 @@ module _ (w : Word) (quiet : (n : ℕ) → (w.keyword ≡ keyword.Other → ⊥)
   step_balanced (SourceCell ∷ ws) s h = source_cell_balanced ws s (and_parts (in_form ws) (stands ws) h).1
   step_balanced (SourceAttribute t ∷ ws) s h = source_attribute_balanced t ws s h
   step_balanced (SourceEnd t name ∷ ws) s h = source_end_balanced t name ws s (and_parts (in_form ws) (stands ws) h).1
-  step_balanced (Actions ∷ ws) s h =
-      cond_both (is_right w.kind) _ _ (B (Actions ∷ ws)) (λ e. (h, closed ws e))
-      (λ _. cond_both (is_left w.kind) _ _ (B (Actions ∷ ws)) (λ e. (h, opened (Actions ∷ ws) e)) (λ _. tt))
-  step_balanced (ActionWord ∷ ws) s h = action_word_balanced w.keyword ws s refl h
+  step_balanced (Actions b ∷ ws) s h =
+      cond_both (is_right w.kind) _ _ (B (Actions b ∷ ws)) (λ e. (h, closed ws e))
+      (λ _. cond_both (is_left w.kind) _ _ (B (Actions b ∷ ws)) (λ e. (h, opened (Actions b ∷ ws) e)) (λ _. tt))
+  step_balanced (ActionWord b ∷ ws) s h = action_word_balanced b w.keyword ws s refl h
+  step_balanced (BuiltName ∷ ws) s h =
+      cond_both (is_name w.kind) _ _ (B (BuiltName ∷ ws)) (λ e. ((and_parts (in_form ws) (stands ws) h).1, named ws e)) (λ _. tt)
   step_balanced (Modified ∷ ws) s h = modified_balanced (cell_of w.kind w.name s) ws s refl (and_parts (in_form ws) (stands ws) h).1
   step_balanced (BoundName ∷ ws) s h =
       cond_both (is_variable w.kind) _ _ (B (BoundName ∷ ws)) (λ e. ((and_parts (in_form ws) (stands ws) h).1, sym (variable_keeps w.kind (owed ws) e))) (λ _. tt)
@@ -717,8 +731,16 @@ ends_cut (w ∷ ws) s h e = tt
 other_before : (k : Keyword) (ts : List Token) → k ≡ keyword.Other → keyword_before k ts ≡ keyword.Other
 other_before k ts e = ap (λ (k : Keyword). keyword_before k ts) e
 
-quiet_word : (names : Spellings) (t : Token) (s : List ℕ) (ts : List Token) (n : ℕ) → ((word_before (word_of names t s) ts).keyword ≡ keyword.Other → ⊥) → open_behind n t.kind ≡ n
-quiet_word names t s ts n known = keyword_keeps t.kind s n (λ other. known (other_before (keyword_of t.kind s) ts other))
+-- a hole is quoted
+word_keeps : (text : List ℕ) (names : Spellings) (t : Token) (n : ℕ) → (keyword_in text names t ≡ keyword.Other → ⊥) → open_behind n t.kind ≡ n
+word_keeps text names t n = by (is_joined text t) refl
+  where
+    by : (b : Bool) → is_joined text t ≡ b → ((if b then hole_in text names t else keyword_of t.kind (spelling text t)) ≡ keyword.Other → ⊥) → open_behind n t.kind ≡ n
+    by true is known = quoted_keeps t.kind n (and_parts (is_quoted t.kind) _ is).0
+    by false is known = keyword_keeps t.kind (spelling text t) n known
+
+quiet_word : (text : List ℕ) (names : Spellings) (t : Token) (ts : List Token) (n : ℕ) → ((word_before (word_of text names t) ts).keyword ≡ keyword.Other → ⊥) → open_behind n t.kind ≡ n
+quiet_word text names t ts n known = word_keeps text names t n (λ other. known (other_before (keyword_in text names t) ts other))
 
 read_on : (rest : List Wanted → State → Outcome) (w : Word) (n : ℕ) (r : Step) → Balanced n r → ((ws : List Wanted) (s : State) → stands ws ≡ true → owed ws ≡ n → NotCut (rest ws s)) → NotCut (after rest w r)
 read_on rest w n (Next ws s) h f = f ws s h.0 h.1
@@ -741,10 +763,10 @@ pub closed_reads : (text : List ℕ) (ts : List Token) (names : Spellings) (n : 
 unfolding goes
 closed_reads text [] names n ws s h e c = absurd (true≢false (sym c))
 closed_reads text (t ∷ ts) names n ws s h e c =
-    let w = word_before (word_of names t (spelling text t)) ts in
+    let w = word_before (word_of text names t) ts in
     let names' = names_with names t.kind (spelling text t) in
     let m = open_behind n t.kind in
-    read_on (goes (words_from text names' ts)) w m (step w ws s) (rw e at (step_balanced w (quiet_word names t (spelling text t) ts) ws s h))
+    read_on (goes (words_from text names' ts)) w m (step w ws s) (rw e at (step_balanced w (quiet_word text names t ts) ws s h))
     (λ ws' s' h' e'. either_end (NotCut (goes (words_from text names' ts) ws' s')) (m == 0) m ts refl c
     (λ none last. subst (λ (us : List Token). NotCut (goes (words_from text names' us) ws' s')) (sym last) (ends_read ws' s' h' (e' ∙ none)))
     (λ more. closed_reads text ts names' m ws' s' h' e' more))
@@ -754,12 +776,12 @@ pub open_goes_on : (text : List ℕ) (ts : List Token) (names : Spellings) (n : 
 unfolding goes
 open_goes_on text [] names n ws s h e some c = ends_cut ws s h (omega arith)
 open_goes_on text (t ∷ ts) names n ws s h e some c =
-    let w = word_before (word_of names t (spelling text t)) ts in
+    let w = word_before (word_of text names t) ts in
     let names' = names_with names t.kind (spelling text t) in
     let m = open_behind n t.kind in
     let parts = and_parts (not (m == 0)) (stays_open m ts) c in
     let apart : (m ≡ 0) → ⊥ = eqb-false m 0 (not-true _ parts.0) in
-    cut_on (goes (words_from text names' ts)) w m (step w ws s) (rw e at (step_balanced w (quiet_word names t (spelling text t) ts) ws s h))
+    cut_on (goes (words_from text names' ts)) w m (step w ws s) (rw e at (step_balanced w (quiet_word text names t ts) ws s h))
     (λ ws' s' h' e'. open_goes_on text ts names' m ws' s' h' e' (omega arith) parts.1)
 
 -- so from its first bracket on
@@ -767,10 +789,10 @@ pub open_form_goes_on : (text : List ℕ) (ts : List Token) (names : Spellings) 
 unfolding goes
 open_form_goes_on text [] names s o c = absurd (true≢false (sym o))
 open_form_goes_on text (t ∷ ts) names s o c =
-    let w = word_before (word_of names t (spelling text t)) ts in
+    let w = word_before (word_of text names t) ts in
     let names' = names_with names t.kind (spelling text t) in
     let m = open_behind 0 t.kind in
     let parts = and_parts (not (m == 0)) (stays_open m ts) c in
     let apart : (m ≡ 0) → ⊥ = eqb-false m 0 (not-true _ parts.0) in
-    cut_on (goes (words_from text names' ts)) w m (step w (Forms ∷ []) s) (step_balanced w (quiet_word names t (spelling text t) ts) (Forms ∷ []) s refl)
+    cut_on (goes (words_from text names' ts)) w m (step w (Forms ∷ []) s) (step_balanced w (quiet_word text names t ts) (Forms ∷ []) s refl)
     (λ ws' s' h' e'. open_goes_on text ts names' m ws' s' h' e' (omega arith) parts.1)

@@ -4,3 +4,4 @@ pub mod Titles
 pub mod Rooms
 pub mod Sides
 pub mod Ways
+pub mod Apart

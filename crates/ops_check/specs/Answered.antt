@@ -2,10 +2,10 @@
 use Rattle.std.specs.Prelude.{◌≡◌, ℕ, List, [], ◌∷◌, length, Option, Some, None, Result, Ok, Err}
 use Rattle.ops_base.specs.Names.{Spellings}
 use Rattle.ops_tokens.specs.declared.token.LexFault.{LexFault}
-use Rattle.ops_grammar.specs.Words.{Lexed, lexed_at, words_from, names_from}
+use Rattle.ops_grammar.specs.Words.{Lexed, lexed_at, outside, joined, words_from, names_from}
 use Rattle.ops_grammar.specs.Grammar.{State, Forms, goes}
 use Rattle.ops_grammar.specs.Places.{line_of, column_of}
-use Rattle.ops_grammar.specs.Reads.{Read, Placed, reads, verdict, cut_off}
+use Rattle.ops_grammar.specs.Reads.{Read, Placed, reads, verdict, cut_off, stands_at}
 use Rattle.ops_grammar.specs.Standing.{Stands}
 use Rattle.ops_forms.specs.Forms.{IsForm, none_by}
 use Rattle.ops_forms.specs.declared.form.Form.{Form}
@@ -33,7 +33,7 @@ IsStanding text (refusal.At f line column) =
 
 -- the program that a draft holds, with these names
 abbrev pub read_of : Draft → Spellings → Read
-read_of d names = record { classes = d.classes; rules = d.rules; commands = d.commands; names = names }
+read_of d names = record { classes = d.classes; rules = d.rules; templates = d.templates.items; commands = d.commands; names = names }
 
 -- if the text is read as `read`, this may be the result
 abbrev pub IsAnswer : Result Read Placed → Result (Draft × Spellings) TextFault → Type 0
@@ -54,10 +54,12 @@ stop_of end.Text = None
 abbrev pub fault_at : Refusal → FormEnd → ℕ → TextFault
 fault_at refused.OutOfMemory e length = answer.OutOfMemory
 fault_at (refused.At f None) e length = placed (cut_off length (stop_of e))
-fault_at (refused.At f (Some w)) e length = answer.At f w.first
+fault_at (refused.At f (Some w)) e length = answer.At f (stands_at f w)
 
 abbrev pub rest_by : List ℕ → Spellings → State → Lexed → Result Read Placed
-rest_by text names s l = verdict (length text) (names_from text names l.tokens) l.stop (goes (words_from text names l.tokens) (Forms ∷ []) s)
+rest_by text names s l =
+    let tokens = joined text outside l.tokens in
+    verdict (length text) (names_from text names tokens) l.stop (goes (words_from text names tokens) (Forms ∷ []) s)
 
 -- what the text is read as from this place on, after this was read before
 abbrev pub rest_of : List ℕ → Spellings → ℕ → State → Result Read Placed

@@ -1,7 +1,7 @@
 -- How the code's walk over the words follows the definition's walk.
-use Rattle.std.specs.Prelude.{◌≡◌, Bool, true, false, ◌||◌, is_some, List, [], ◌∷◌, ◌++◌, Some, None, Result, Ok, Err}
+use Rattle.std.specs.Prelude.{◌≡◌, Bool, true, false, ◌||◌, ◌&&◌, not, is_some, List, [], ◌∷◌, ◌++◌, Some, None, Result, Ok, Err}
 use Rattle.ops_grammar.specs.declared.words.Word.{Word}
-use Rattle.ops_grammar.specs.Grammar.{Target as Goal, ToFixed, ToConstants, TagUse as TagGoal, ToRemove, ToShow, NameUse as NameGoal, ToPrint, ToBreak, ToExcise, ToMatch, Forms, State, is_literal, value_of, no_formula, goes}
+use Rattle.ops_grammar.specs.Grammar.{Target as Goal, ToFixed, ToConstants, TagUse as TagGoal, ToRemove, ToShow, NameUse as NameGoal, ToPrint, ToBreak, ToExcise, ToMatch, Forms, State, is_literal, value_of, hole_of, no_formula, goes}
 use Rattle.ops_forms.specs.declared.refusals.Refusal.{Refusal}
 use Rattle.ops_forms.specs.declared.refusals.Refusal.TheVariants as refusal
 use Rattle.ops_check.specs.declared.draft.Draft.{Draft}
@@ -25,6 +25,7 @@ view d =
     record {
       classes = d.classes;
       rules = d.rules;
+      templates = d.templates.items;
       commands = d.commands;
       vectors = d.vectors;
       name = d.name;
@@ -49,6 +50,7 @@ view d =
       members = [];
       conditions = [];
       actions = [];
+      begun = 0;
       modified = None;
       made = None;
       further = [];
@@ -56,6 +58,9 @@ view d =
       source = 0;
       source_field = 0;
       formula = no_formula;
+      counted = 0;
+      holes = [];
+      outer = None;
       shows = shows d.element_use;
       tags = d.tags.items;
       named = d.named.items;
@@ -82,6 +87,6 @@ ReadsAll old new words (Err refusal.OutOfMemory) = Unit {0}
 ReadsAll old new words (Err (refusal.At f None)) = goes (words ++ []) (Forms ∷ []) old ≡ Err (f, None)
 ReadsAll old new words (Err (refusal.At f (Some w))) = (more : List Word) → goes (words ++ more) (Forms ∷ []) old ≡ Err (f, Some w)
 
--- the word begins a constant
+-- the word begins a constant, which is no hole
 abbrev pub begins_value : Word → Bool
-begins_value w = is_literal w.keyword || is_some (value_of w.kind w.name)
+begins_value w = is_literal w.keyword || (is_some (value_of w.kind w.name) && not (is_some (hole_of w.keyword)))

@@ -55,6 +55,8 @@ pub(crate) struct Draft {
     pub(crate) classes: Classes,
     /// The productions at the beginning. A later production is added by a command.
     pub(crate) rules: Declared<Rule>,
+    /// The productions that actions build.
+    pub(crate) templates: Vec<Rule>,
     pub(crate) commands: GivenCommands,
     /// The names of vector attributes.
     pub(crate) vectors: Declared<Sym>,
@@ -91,6 +93,7 @@ impl Draft {
         Draft {
             classes: Classes::new(alloc),
             rules: Declared::new(alloc),
+            templates: Vec::new(alloc),
             commands: GivenCommands::new(alloc),
             vectors: Declared::new(alloc),
             name: NIL,

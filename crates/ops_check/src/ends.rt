@@ -1,7 +1,7 @@
 //! What is completed while a text is read: values become a field of an element, its fields a command, and two sides a
 //! production.
-ghost use Rattle.std.specs.Prelude.{◌≡◌, ◌+◌, ◌++◌, List, ℕ, not, count_by, SomeIff, ◌<◌, ◌^◌};
-ghost use Rattle.ops_base.specs.Valid.{cells_of, elements_in, specificity, specificity_of};
+ghost use Rattle.std.specs.Prelude.{◌≡◌, ◌++◌, List, ℕ};
+ghost use Rattle.ops_base.specs.Valid.{cells_of};
 ghost use Rattle.ops_grammar.specs.Grammar.{with_several, with_element, with_rule, fixed_command, InFixed};
 ghost use Rattle.ops_forms.specs.WordWalks.{Becomes};
 ghost use Rattle.ops_rhs.specs.RightSides.{right_read};
@@ -9,11 +9,12 @@ ghost use Rattle.ops_check.specs.Walks.{view, shows};
 
 use crate::draft::{Draft, ElementUse};
 use ops_base::commands::{Command, Fixed};
-use ops_base::conditions::{Condition, Part};
+use ops_base::conditions::Part;
 use ops_base::constants::Constants;
 use ops_base::list::Listed;
 use ops_base::rules::Rule;
 use ops_forms::refusals::Refusal;
+use ops_lhs::specificity;
 use ops_rhs::RightSide;
 use std::mem;
 
@@ -69,6 +70,7 @@ impl Draft {
         self.values = sight.values;
         self.elements = sight.elements;
         self.variables = sight.variables;
+        self.templates = sight.templates;
         self.add_rule(rule)
     }
 }
@@ -84,42 +86,4 @@ fn fixed_command(element_use: ElementUse, class: usize, puts: Listed<Fixed>) -> 
             Command::Ppwm { pattern }
         }
     }
-}
-
-// one per condition, including members of groups, and one per test that does not bind
-fn specificity(parts: &[Part]) -> Option<u32>
-    ensures { SomeIff result (specificity parts.now < 2 ^ 32) (specificity parts.now) }
-{
-    let mut total: u32 = 0;
-    for part in parts {
-        total = total.checked_add(specificity_in(part)?)?;
-    }
-    Some(total)
-}
-
-fn specificity_in(part: &Part) -> Option<u32>
-    ensures { SomeIff result (specificity_of (elements_in part.now) < 2 ^ 32) (specificity_of (elements_in part.now)) }
-{
-    match part {
-        Part::One(condition) => specificity_of(condition),
-        Part::Group(members) => specificity_of_all(members.as_slice()),
-    }
-}
-
-fn specificity_of_all(conditions: &[Condition]) -> Option<u32>
-    ensures { SomeIff result (specificity_of conditions.now < 2 ^ 32) (specificity_of conditions.now) }
-{
-    let mut total: u32 = 0;
-    for condition in conditions {
-        total = total.checked_add(specificity_of(condition)?)?;
-    }
-    Some(total)
-}
-
-fn specificity_of(condition: &Condition) -> Option<u32>
-    ensures { SomeIff result (1 + count_by (λ t. not t.binds) condition.now.tests < 2 ^ 32) (1 + count_by (λ t. not t.binds) condition.now.tests) }
-{
-    let tests = condition.tests.as_slice();
-    let tests = tests.iter().filter(|test| !test.binds).count();
-    u32::try_from(tests).ok()?.checked_add(1)
 }

@@ -9,6 +9,7 @@ use ops_base::endings::{Fault, fault_text};
 use ops_base::memory::OutOfMemory;
 use ops_forms::FormEnd;
 use ops_forms::refusals::Refusal;
+use ops_forms::walking::stands_at;
 use ops_tokens::{BAD_BYTE, FRACTION_NUMBER, LexFault, UNCLOSED};
 use thiserror::Error;
 
@@ -76,7 +77,7 @@ fn cut_off(end: FormEnd, length: usize) -> TextFault
     }
 }
 
-/// The place of a refusal in a text of this length: at its word, or where the tokens of its form end.
+/// The place of a refusal in a text of this length: where its word stands, or where the tokens of its form end.
 pub(crate) fn fault_at(refusal: Refusal, end: FormEnd, length: usize) -> TextFault
     ensures { result ≡ fault_at refusal end length }
 {
@@ -86,7 +87,7 @@ pub(crate) fn fault_at(refusal: Refusal, end: FormEnd, length: usize) -> TextFau
             word: Some(word),
         } => TextFault::At {
             fault,
-            at: word.first,
+            at: stands_at(fault, word),
         },
         Refusal::At { word: None, .. } => cut_off(end, length),
         Refusal::OutOfMemory => TextFault::OutOfMemory,

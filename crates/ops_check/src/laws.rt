@@ -16,6 +16,6 @@ pub fn grammar_is_read(text: &[u8])
 
 /// Each program of the language has a spelling in words, and its spelling is read as that program.
 pub fn spelling_is_read_back()
-    ensures { (classes : List Class) (rules : List Rule) (commands : List Command) → is_plain classes rules commands ≡ true
-        → AreRead (spelled_program classes rules commands) classes rules commands }
+    ensures { (classes : List Class) (rules templates : List Rule) (commands : List Command) → is_plain classes rules templates commands ≡ true
+        → AreRead (spelled_program classes rules templates commands) classes rules templates commands }
 {}

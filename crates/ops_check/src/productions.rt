@@ -1,5 +1,5 @@
 //! Productions.
-ghost use Rattle.std.specs.Prelude.{◌≡◌, ◌<◌, ◌-◌, ◌∷◌, ◌++◌, length, slice_get, Some, IfOk};
+ghost use Rattle.std.specs.Prelude.{◌≡◌, ◌<◌, ◌-◌, ◌∷◌, ◌++◌, length, slice_get, false, Some, None, IfOk};
 ghost use Rattle.ops_base.specs.Valid.{cells_of};
 ghost use Rattle.ops_grammar.specs.Grammar.{goes, left_begun, RuleName, FirstPattern, Patterns, Actions};
 ghost use Rattle.ops_forms.specs.WordWalks.{Goes, Reads, IsWithin};
@@ -11,17 +11,20 @@ use crate::draft::Draft;
 use ops_base::conditions::Part;
 use ops_base::endings::Fault;
 use ops_base::memory::OutOfMemory;
+use ops_base::rules::Rule;
+use ops_forms::Declared;
 use ops_forms::kinds::is_name;
 use ops_forms::refusals::{Refusal, first_of, refused};
 use ops_grammar::Word;
-use ops_lhs::{LeftSide, cells_of_conditions, classes_of_cells, left_side};
+use ops_lhs::{Around, LeftSide, cells_of_conditions, classes_of_cells, left_side};
 use ops_rhs::{Sight, right_side};
 use std::alloc::Global;
+use std::mem;
 
 impl Draft {
     // NAME first condition* --> action* )
     pub(crate) fn production<'a>(&mut self, words: &'a [Word]) -> Result<&'a [Word], Refusal>
-        ensures reads { Goes (λ more ws. goes (words.now ++ more) (RuleName ∷ FirstPattern ∷ Patterns ∷ Actions ∷ ws) (view self.old)) (view self.new) result }
+        ensures reads { Goes (λ more ws. goes (words.now ++ more) (RuleName ∷ FirstPattern ∷ Patterns ∷ Actions false ∷ ws) (view self.old)) (view self.new) result }
         ensures within { IsWithin words.now result }
     {
         let rest = self.rule_name(words)?;
@@ -53,20 +56,26 @@ impl Draft {
     // first condition* --> action* ), if nothing of another left side is left
     fn sides<'a>(&mut self, words: &'a [Word]) -> Result<&'a [Word], Refusal>
         requires begun { view self.old ≡ left_begun (view self.old) }
-        ensures reads { Goes (λ more ws. goes (words.now ++ more) (FirstPattern ∷ Patterns ∷ Actions ∷ ws) (view self.old)) (view self.new) result }
+        ensures reads { Goes (λ more ws. goes (words.now ++ more) (FirstPattern ∷ Patterns ∷ Actions false ∷ ws) (view self.old)) (view self.new) result }
         ensures within { IsWithin words.now result }
     {
-        let (left, rest) = left_side(self.alloc, &self.classes, words)?;
+        let none = Declared::new(self.alloc);
+        let around = Around {
+            classes: &self.classes,
+            values: &none,
+        };
+        let (left, rest) = left_side(self.alloc, &around, words)?;
         self.actions(left, rest)
     }
 
     // action* ), after this left side
     fn actions<'a>(&mut self, left: LeftSide, words: &'a [Word]) -> Result<&'a [Word], Refusal>
         requires begun { view self.old ≡ left_begun (view self.old) }
-        ensures reads { Goes (λ more ws. goes (words.now ++ more) (Actions ∷ ws) (left_read (view self.old) left.conditions.items left.values left.elements left.variables)) (view self.new) result }
+        ensures reads { Goes (λ more ws. goes (words.now ++ more) (Actions false ∷ ws) (left_read None (view self.old) left.conditions.items left.values left.elements left.variables left.counted left.holes.items)) (view self.new) result }
         ensures within { IsWithin words.now result }
     {
-        let (conditions, sight) = seen_behind(self.alloc, left)?;
+        let templates = mem::replace(&mut self.templates, Vec::new(self.alloc));
+        let (conditions, sight) = seen_behind(self.alloc, left, templates)?;
         let (right, rest) = right_side(self.alloc, &self.classes, sight, words)?;
         let bracket = word_before(words, rest);
         self.end_rule(conditions, right, bracket.past)?;
@@ -74,10 +83,14 @@ impl Draft {
     }
 }
 
-// the conditions of a left side, and what is in sight after it
-fn seen_behind(alloc: Global, left: LeftSide) -> Result<(Vec<Part>, Sight), OutOfMemory>
+// the conditions of a left side, and what is in sight after it, if actions built these productions before
+fn seen_behind(
+    alloc: Global,
+    left: LeftSide,
+    templates: Vec<Rule>,
+) -> Result<(Vec<Part>, Sight), OutOfMemory>
     ensures conditions { IfOk result (λ r. r.0.items ≡ left.conditions.items) }
-    ensures sight { IfOk result (λ r. r.1 ≡ record { values = left.values; elements = left.elements; cells = cells_of left.conditions.items; conditions = cells_from 0 left.conditions.items; variables = left.variables }) }
+    ensures sight { IfOk result (λ r. r.1 ≡ record { values = left.values; elements = left.elements; cells = cells_of left.conditions.items; conditions = cells_from 0 left.conditions.items; variables = left.variables; counted = left.counted; holes = left.holes; templates = templates }) }
 {
     let sight = Sight {
         values: left.values,
@@ -85,6 +98,9 @@ fn seen_behind(alloc: Global, left: LeftSide) -> Result<(Vec<Part>, Sight), OutO
         cells: classes_of_cells(alloc, &left.conditions)?,
         conditions: cells_of_conditions(alloc, &left.conditions)?,
         variables: left.variables,
+        counted: left.counted,
+        holes: left.holes,
+        templates,
     };
     Ok((left.conditions, sight))
 }

@@ -1,5 +1,5 @@
 //! Reading a program.
-ghost use Rattle.std.specs.Prelude.{◌≡◌, ◌≤◌, ℕ, [], length, All, IsTrue, IfOk, IfErr, Ok};
+ghost use Rattle.std.specs.Prelude.{◌≡◌, ◌≤◌, ℕ, length, All, IsTrue, IfOk, IfErr, Ok};
 ghost use Rattle.ops_base.specs.Valid.{is_valid};
 ghost use Rattle.ops_tokens.specs.Tokens.{LiesIn};
 ghost use Rattle.ops_grammar.specs.Derivation.{IsText};
@@ -27,15 +27,14 @@ pub const LONGEST_TEXT: usize = 16_777_216;
 /// Reads a program and the names in it. The text is moved into the program, or dropped if it is refused. Takes time in
 /// proportion to the length of the text times the logarithm of the number of names.
 pub fn read_program(alloc: Global, text: Vec<u8>) -> Result<(Program, Names), ProgramFault>
-    ensures ok { IfOk result (λ r. reads text.items ≡ Ok (record { classes = r.0.classes; rules = r.0.rules; commands = r.0.commands; names = r.1 })) }
-    ensures templates { IfOk result (λ r. r.0.templates ≡ []) }
+    ensures ok { IfOk result (λ r. reads text.items ≡ Ok (record { classes = r.0.classes; rules = r.0.rules; templates = r.0.templates; commands = r.0.commands; names = r.1 })) }
     ensures text { IfOk result (λ r. r.0.text ≡ text.items) }
     ensures fault { IfErr result (λ e. IsRefusal text.items e) }
     ensures stands { IfErr result (λ e. IsStanding text.items e) }
     ensures derived { IfOk result (λ r. IsText (words_of text.items)) }
     ensures named { IfOk result (λ r. IsTrue (is_held (length r.1.held) r.0.classes r.0.rules r.0.templates r.0.commands)) }
     ensures names { IfOk result (λ r. AreNamesOf text.items r.1) }
-    ensures again { IfOk result (λ r. AreRead (spelled_program r.0.classes r.0.rules r.0.commands) r.0.classes r.0.rules r.0.commands) }
+    ensures again { IfOk result (λ r. AreRead (spelled_program r.0.classes r.0.rules r.0.templates r.0.commands) r.0.classes r.0.rules r.0.templates r.0.commands) }
 {
     match read_text(alloc, text.as_slice()) {
         Ok((draft, names)) => Ok((program_of(draft, text), names)),
@@ -134,27 +133,25 @@ fn read_form(
     }
 }
 
-// A text has no templates from which its productions are built.
 fn program_of(draft: Draft, text: Vec<u8>) -> Program
-    requires { IsTrue (is_valid draft.classes draft.rules [] draft.commands (length text.items)) }
+    requires { IsTrue (is_valid draft.classes draft.rules draft.templates.items draft.commands (length text.items)) }
     ensures classes { result.classes ≡ draft.classes }
     ensures rules { result.rules ≡ draft.rules }
-    ensures templates { result.templates ≡ [] }
+    ensures templates { result.templates ≡ draft.templates.items }
     ensures commands { result.commands ≡ draft.commands }
     ensures text { result.text ≡ text.items }
 {
     let Draft {
         classes,
         rules,
+        templates,
         commands,
-        alloc,
         ..
     } = draft;
-    let templates = Listed::new(alloc);
     Program::new(
         Listed::from_vec(classes.into_vec()),
         Listed::from_vec(rules.into_vec()),
-        templates,
+        Listed::from_vec(templates),
         Listed::from_vec(commands.into_vec()),
         Listed::from_vec(text),
     )

@@ -7,7 +7,7 @@ ghost use Rattle.ops_check.specs.Walks.{view, begins_value};
 
 use crate::draft::{Draft, Target};
 use ops_base::elements::MOST_FIELDS;
-use ops_forms::kinds::{ends_values, is_literal, value_of};
+use ops_forms::kinds::{ends_values, is_hole, is_literal, value_of};
 use ops_forms::refusals::{Refusal, fields_passed, first_of};
 use ops_grammar::Word;
 
@@ -51,9 +51,9 @@ impl Draft {
     }
 }
 
-// whether a constant begins at a word
+// whether a constant that is no hole begins at a word
 fn begins_value(word: Word) -> bool
     ensures { result ≡ begins_value word }
 {
-    is_literal(word.keyword) || value_of(word.kind, word.name).is_some()
+    is_literal(word.keyword) || (value_of(word.kind, word.name).is_some() && !is_hole(word.keyword))
 }

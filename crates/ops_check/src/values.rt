@@ -5,7 +5,7 @@ ghost use Rattle.ops_check.specs.Walks.{view, target_of};
 
 use crate::draft::{Draft, Target};
 use ops_base::endings::Fault;
-use ops_forms::kinds::{atom_of, is_literal, is_variable, value_of};
+use ops_forms::kinds::{atom_of, is_hole, is_literal, is_variable, value_of};
 use ops_forms::refusals::{Refusal, first_of, refused};
 use ops_grammar::Word;
 
@@ -38,6 +38,9 @@ impl Draft {
             return self.atom(target, rest);
         }
         if let Some(constant) = value_of(word.kind, word.name) {
+            if is_hole(word.keyword) {
+                return refused(Fault::UnboundVariable, word);
+            }
             self.add_constant(target, constant)?;
             return Ok(rest);
         }
@@ -57,6 +60,9 @@ impl Draft {
         let Some(value) = atom_of(word.kind, word.name) else {
             return refused(Fault::BadForm, word);
         };
+        if is_hole(word.keyword) {
+            return refused(Fault::UnboundVariable, word);
+        }
         self.add_constant(target, value)?;
         Ok(rest)
     }

@@ -9,7 +9,7 @@ use Rattle.ops_base.specs.Names.{Spellings}
 use Rattle.ops_tokens.specs.declared.token.Token.{Token}
 use Rattle.ops_tokens.specs.Tokens.{spelling}
 use Rattle.ops_grammar.specs.declared.words.Word.{Word}
-use Rattle.ops_grammar.specs.Words.{keyword_of, names_with, words_from, names_from, keyword_before}
+use Rattle.ops_grammar.specs.Words.{keyword_in, names_with, words_from, names_from, keyword_before}
 use Rattle.ops_grammar.specs.Grammar.{Wanted, Forms, State, Step, Next, Refuses, Outcome, after, step, ends, goes}
 use Rattle.ops_forms.specs.Forms.{past_last}
 use Rattle.ops_forms.specs.PlaceWalks.{AreBehind, IsBehind, words_of_scope}
@@ -66,7 +66,7 @@ words_length text names [] = refl
 words_length text names (t ∷ ts) = ap suc (words_length text (names_with names t.kind (spelling text t)) ts)
 
 -- the tokens from a place on, as a slice has them
-whole_tokens : (tokens : List Token) (from : ℕ) → take (length tokens - from) (drop from tokens) ≡ drop from tokens
+pub whole_tokens : (tokens : List Token) (from : ℕ) → take (length tokens - from) (drop from tokens) ≡ drop from tokens
 whole_tokens tokens from = take_all (length tokens - from) (drop from tokens) (omega (arith, length-drop from tokens))
 
 module _ (scope : Scope) (tokens : List Token) (from : ℕ) (text : List ℕ) (same : text ≡ scope.text.items) where
@@ -81,16 +81,17 @@ pub record IsTokenOf (text : List ℕ) (ts : List Token) (place : ℕ) (w : Word
   pub token : Token
   pub there : slice_get ts place ≡ Some token
   pub kind : token.kind ≡ w.kind
+  pub names : Spellings
   pub after : List Token
-  pub keyword : keyword_before (keyword_of token.kind (spelling text token)) after ≡ w.keyword
+  pub keyword : keyword_before (keyword_in text names token) after ≡ w.keyword
 
 token_of : (text : List ℕ) (names : Spellings) (ts : List Token) (before rest : List Word) (w : Word) → words_from text names ts ≡ before ++ w ∷ rest → IsTokenOf text ts (length before) w
 token_of text names [] [] rest w e = absurd (cc)
 token_of text names [] (b ∷ before) rest w e = absurd (cc)
-token_of text names (t ∷ ts) [] rest w e = record { token = t; there = refl; kind = cc; after = ts; keyword = cc }
+token_of text names (t ∷ ts) [] rest w e = record { token = t; there = refl; kind = cc; names = names; after = ts; keyword = cc }
 token_of text names (t ∷ ts) (b ∷ before) rest w e =
     let found = token_of text (names_with names t.kind (spelling text t)) ts before rest w (cc) in
-    record { token = found.token; there = found.there; kind = found.kind; after = found.after; keyword = found.keyword }
+    record { token = found.token; there = found.there; kind = found.kind; names = found.names; after = found.after; keyword = found.keyword }
 
 get_behind : (from k : ℕ) (ts : List Token) → from ≤ length ts → slice_get (drop from ts) k ≡ slice_get ts (from + k)
 get_behind zero k ts le =
@@ -129,6 +130,7 @@ module _ (is_it : Word → Type 0) (scope : Scope) (tokens : List Token) (from :
         token = found.token;
         there = ap (slice_get tokens) place_is ∙ sym (get_behind from (length b.before) tokens le) ∙ found.there;
         kind = found.kind;
+        names = found.names;
         after = found.after;
         keyword = found.keyword;
       }

@@ -5,3 +5,5 @@ pub mod Reading
 pub mod Ways
 pub mod Walks
 pub mod Borders
+pub mod Joined
+pub mod Constants

@@ -13,7 +13,7 @@ use Rattle.ops_tokens.proofs.Clauses.{token-place}
 use Rattle.ops_grammar.specs.Words.{Lexed, lexed_at, lexed_from, lexed_after, led_by}
 use Rattle.ops_grammar.specs.Grammar.{is_left}
 use Rattle.ops_grammar.specs.Reads.{is_numeric}
-use Rattle.ops_forms.specs.Forms.{open_behind, is_last, closes_last, stays_open, opens, led, none_by, past_last, Ends, IsForm, IsStray, IsNext, token, atom}
+use Rattle.ops_forms.specs.Forms.{open_behind, is_last, closes_last, stays_open, opens, led, none_by, past_last, Ends, IsRaw, IsForm, IsStray, IsNext, token, atom}
 use Rattle.ops_forms.specs.declared.form.FormFault.TheVariants as fault
 use Rattle.ops_forms.specs.declared.form.Form.{Form}
 use Rattle.ops_forms.specs.declared.form.FormEnd.TheVariants as end
@@ -95,6 +95,9 @@ opens_more (t ∷ ts) us e = e
 one_lies : (text : List ℕ) (t : Token) → LiesIn text t → All (λ t. LiesIn text t) (t ∷ [])
 one_lies text t lies = grind (arith, common_steps)
 
+more_lie : (text : List ℕ) (ts : List Token) (t : Token) → All (λ t. LiesIn text t) ts → LiesIn text t → All (λ t. LiesIn text t) (ts ++ t ∷ [])
+more_lie text ts t lie lies = All-append (λ t. LiesIn text t) ts (t ∷ []) lie (one_lies text t lies)
+
 -- the tokens from `from` up to `at` begin a form, whatever closes it
 pub record IsBegun (text : List ℕ) (from : ℕ) (tokens : List Token) (at : ℕ) : Type 0 where
   pub opens : opens tokens ≡ true
@@ -125,7 +128,7 @@ begun_more text from ts at t b is =
       past = sym (past_more from ts t);
       begins = omega (arith, b.begins, stands.begins, stands.some);
       within = stands.lies.within;
-      lie = All-append (λ t. LiesIn text t) ts (t ∷ []) b.lie (one_lies text t stands.lies);
+      lie = more_lie text ts t b.lie stands.lies;
     }
 
 -- after the bracket `left`, at each place from which it is the next token, these tokens leave this many brackets open
@@ -136,6 +139,7 @@ pub record IsOpen (text : List ℕ) (left : Token) (tokens : List Token) (at dep
   pub inside : 0 < depth
   pub fits : depth ≤ at
   pub within : at ≤ length text
+  pub lie : All (λ t. LiesIn text t) tokens
 
 left_opens : (k : TokenKind) (n : ℕ) → is_left k ≡ true → open_behind n k ≡ n + 1
 left_opens k n e = grind (arith, common_steps)
@@ -153,6 +157,7 @@ open_first text left is some lies =
       inside = omega arith;
       fits = omega arith;
       within = lies.within;
+      lie = one_lies text left lies;
     }
 
 pub open_more : (text : List ℕ) (left : Token) (ts : List Token) (at depth : ℕ) (t : Token) → IsOpen text left ts at depth → token_at text at ≡ Ok (Some t) → 0 < open_behind depth t.kind → IsOpen text left (ts ++ t ∷ []) t.past (open_behind depth t.kind)
@@ -166,32 +171,43 @@ open_more text left ts at depth t o is some =
       inside = some;
       fits = omega (arith, one_more_at_most t.kind depth, o.fits, stands.begins, stands.some);
       within = stands.lies.within;
+      lie = more_lie text ts t o.lie stands.lies;
     }
 
 -- ---- the end of a form
 
-formed : (text : List ℕ) (from : ℕ) (form : Form) → IsBegun text from form.tokens.items form.past → Ends text from form.tokens.items form.past form.end → IsForm text from form
+formed : (text : List ℕ) (from : ℕ) (form : Form) → IsBegun text from form.tokens.items form.past → Ends text from form.tokens.items form.past form.end → IsRaw text from form
 formed text from form b ends = record { opens = b.opens; ends = ends; past = b.past; begins = b.begins; within = b.within; lie = b.lie }
 
--- this form stands at each place from which `left` is the next token
+-- the tokens lie in the text, and they are this form at each place from which `left` is the next token
 abbrev pub IsFormOf : List ℕ → Token → Form → Type 0
-IsFormOf text left form = (from : ℕ) → from ≤ length text → token_at text from ≡ Ok (Some left) → IsForm text from form
+IsFormOf text left form = All (λ t. LiesIn text t) form.tokens.items × ((from : ℕ) → from ≤ length text → token_at text from ≡ Ok (Some left) → IsRaw text from form)
 
 pub closed_form : (text : List ℕ) (left : Token) (tokens : Vec Token Global) (ts : List Token) (at depth : ℕ) (t : Token) → tokens.items ≡ ts ++ t ∷ [] → IsOpen text left ts at depth → token_at text at ≡ Ok (Some t) → open_behind depth t.kind ≡ 0 → IsFormOf text left (record { tokens = tokens; past = t.past; end = end.Closed })
-closed_form text left tokens ts at depth t grown o is none from le next =
-    let b : IsBegun text from tokens.items t.past = subst (λ (x : List Token). IsBegun text from x t.past) (sym grown) (begun_more text from ts at t (o.begun from le next) is) in
-    let last : (open_behind (depth_of 0 ts) t.kind == 0) ≡ true = ap (λ (n : ℕ). open_behind n t.kind == 0) (sym o.count) ∙ ap (λ (n : ℕ). n == 0) none in
-    formed text from _ b (ap (closes_last 0) grown ∙ closes_more 0 ts t o.stays last, b.lexed)
+closed_form text left tokens ts at depth t grown o is none =
+    let stands : StandsFrom text at t = rw is at (token-place text at o.within) in (
+      subst (λ (x : List Token). All (λ t. LiesIn text t) x) (sym grown) (more_lie text ts t o.lie stands.lies),
+      λ from le next.
+          let b : IsBegun text from tokens.items t.past = subst (λ (x : List Token). IsBegun text from x t.past) (sym grown) (begun_more text from ts at t (o.begun from le next) is) in
+          let last : (open_behind (depth_of 0 ts) t.kind == 0) ≡ true = ap (λ (n : ℕ). open_behind n t.kind == 0) (sym o.count) ∙ ap (λ (n : ℕ). n == 0) none in
+          formed text from _ b (ap (closes_last 0) grown ∙ closes_more 0 ts t o.stays last, b.lexed),
+    )
 
 pub open_form : (text : List ℕ) (left : Token) (tokens : Vec Token Global) (at depth : ℕ) → IsOpen text left tokens.items at depth → token_at text at ≡ Ok None → IsFormOf text left (record { tokens = tokens; past = at; end = end.Text })
-open_form text left tokens at depth o is from le next =
-    let b : IsBegun text from tokens.items at = o.begun from le next in
-    formed text from _ b (o.stays, b.lexed ∙ ap (led tokens.items) (lexed_none text at is))
+open_form text left tokens at depth o is = (
+  o.lie,
+  λ from le next.
+      let b : IsBegun text from tokens.items at = o.begun from le next in
+      formed text from _ b (o.stays, b.lexed ∙ ap (led tokens.items) (lexed_none text at is)),
+)
 
 pub cut_form : (text : List ℕ) (left : Token) (tokens : Vec Token Global) (at depth : ℕ) (f : LexFault) → IsOpen text left tokens.items at depth → token_at text at ≡ Err f → IsFormOf text left (record { tokens = tokens; past = at; end = end.Fault f })
-cut_form text left tokens at depth f o is from le next =
-    let b : IsBegun text from tokens.items at = o.begun from le next in
-    formed text from _ b (o.stays, b.lexed ∙ ap (led tokens.items) (lexed_fault text at f is))
+cut_form text left tokens at depth f o is = (
+  o.lie,
+  λ from le next.
+      let b : IsBegun text from tokens.items at = o.begun from le next in
+      formed text from _ b (o.stays, b.lexed ∙ ap (led tokens.items) (lexed_fault text at f is)),
+)
 
 -- ---- what begins no form
 

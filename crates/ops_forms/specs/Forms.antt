@@ -5,7 +5,7 @@ use Rattle.ops_tokens.specs.declared.token.TokenKind.{TokenKind}
 use Rattle.ops_tokens.specs.declared.token.TokenKind.TheVariants as kind
 use Rattle.ops_tokens.specs.declared.token.LexFault.{LexFault}
 use Rattle.ops_tokens.specs.Tokens.{LiesIn}
-use Rattle.ops_grammar.specs.Words.{Lexed, lexed_at}
+use Rattle.ops_grammar.specs.Words.{Lexed, lexed_at, outside, joined}
 use Rattle.ops_grammar.specs.Grammar.{is_left}
 use Rattle.ops_grammar.specs.Reads.{is_numeric}
 use Rattle.ops_forms.specs.declared.form.Form.{Form}
@@ -59,10 +59,21 @@ Ends text from tokens past end.Closed = (closes_last 0 tokens ≡ true) × (lexe
 Ends text from tokens past (end.Fault f) = (stays_open 0 tokens ≡ true) × (lexed_at text from ≡ led tokens (none_by (Some f)))
 Ends text from tokens past end.Text = (stays_open 0 tokens ≡ true) × (lexed_at text from ≡ led tokens (none_by None))
 
--- the next thing in the text is a form
-pub record IsForm (text : List ℕ) (from : ℕ) (form : Form) : Type 0 where
+-- the next thing in the text is a form of these tokens, as the text has them
+pub record IsRaw (text : List ℕ) (from : ℕ) (form : Form) : Type 0 where
   pub opens : opens form.tokens.items ≡ true
   pub ends : Ends text from form.tokens.items form.past form.end
+  pub past : form.past ≡ past_last from form.tokens.items
+  pub begins : from < form.past
+  pub within : form.past ≤ length text
+  pub lie : All (λ t. LiesIn text t) form.tokens.items
+
+-- The next thing in the text is a form. A `\\` or `\` with the variable after it is one of its tokens inside a `build`.
+pub record IsForm (text : List ℕ) (from : ℕ) (form : Form) : Type 0 where
+  pub raw : List Token
+  pub joined : form.tokens.items ≡ joined text outside raw
+  pub opens : opens raw ≡ true
+  pub ends : Ends text from raw form.past form.end
   pub past : form.past ≡ past_last from form.tokens.items
   pub begins : from < form.past
   pub within : form.past ≤ length text

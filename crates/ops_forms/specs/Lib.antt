@@ -4,3 +4,4 @@ pub mod WordWalks
 pub mod Noted
 pub mod Sights
 pub mod PlaceWalks
+pub mod Pairs

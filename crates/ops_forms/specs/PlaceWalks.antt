@@ -4,6 +4,7 @@ use Rattle.ops_base.specs.declared.endings.Fault.TheVariants as fault
 use Rattle.ops_tokens.specs.declared.token.Token.{Token}
 use Rattle.ops_grammar.specs.declared.words.Word.{Word}
 use Rattle.ops_grammar.specs.Words.{words_from}
+use Rattle.ops_grammar.specs.Reads.{stands_at}
 use Rattle.ops_grammar.specs.Grammar.{Ends, Wanted, Closes, State, Outcome, after, step, goes, ended}
 use Rattle.ops_forms.specs.declared.refusals.Refusal.{Refusal}
 use Rattle.ops_forms.specs.declared.refusals.Refusal.TheVariants as refusal
@@ -135,5 +136,5 @@ words_of_scope scope tokens from = words_from scope.text.items scope.names (drop
 -- the fault of a refusal, if the tokens end at that byte
 abbrev pub fault_of : Refusal → ℕ → ReadFault
 fault_of refusal.OutOfMemory past = answer.OutOfMemory
-fault_of (refusal.At f (Some w)) past = answer.At f w.first
+fault_of (refusal.At f (Some w)) past = answer.At f (stands_at f w)
 fault_of (refusal.At f None) past = answer.At f past

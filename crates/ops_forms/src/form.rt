@@ -1,12 +1,13 @@
 //! Reads the next form of a text.
-ghost use Rattle.std.specs.Prelude.{ℕ, ◌≡◌, ◌≤◌, ◌<◌, ◌^◌, length, true, if◌then◌else◌, IfOk, Ok, Some};
+ghost use Rattle.std.specs.Prelude.{ℕ, ◌≡◌, ◌≤◌, ◌<◌, ◌^◌, length, true, if◌then◌else◌, All, IfOk, Ok, Some};
 ghost use Rattle.ops_tokens.specs.Program.{program_table};
 ghost use Rattle.ops_tokens.specs.Tokens.{token_at, LiesIn};
 ghost use Rattle.ops_grammar.specs.Grammar.{is_left};
 ghost use Rattle.ops_grammar.specs.Reads.{is_numeric};
-ghost use Rattle.ops_forms.specs.Forms.{open_behind, IsForm, IsNext};
+ghost use Rattle.ops_forms.specs.Forms.{open_behind, IsRaw, IsForm, IsNext};
 ghost use Rattle.ops_forms.specs.declared.form.FormFault.TheVariants.{Lex as Bad, Stray as Astray, OutOfMemory as WantOfMemory};
 
+use crate::pairs::joined;
 use ops_base::memory::OutOfMemory;
 use ops_tokens::token::{FRACTION_NUMBER, NUMBER_RANGE};
 use ops_tokens::{LexFault, Scanner, Token, TokenKind};
@@ -86,7 +87,7 @@ impl FormReader {
         match self.scanner.next_token(text, from) {
             Ok(None) => Ok(None),
             Ok(Some(token)) => match token.kind {
-                TokenKind::Left => Ok(Some(self.form_of(alloc, text, token)?)),
+                TokenKind::Left => Ok(Some(self.joined_form(alloc, text, token)?)),
                 _ => Err(FormFault::Stray { at: token.first }),
             },
             Err(fault) => Err(no_form(fault)),
@@ -94,11 +95,27 @@ impl FormReader {
     }
 
     /// The form that starts with the bracket `left`.
-    fn form_of(&self, alloc: Global, text: &[u8], left: Token) -> Result<Form, OutOfMemory>
+    fn joined_form(&self, alloc: Global, text: &[u8], left: Token) -> Result<Form, OutOfMemory>
         requires opens { is_left left.kind ≡ true }
         requires some { left.first < left.past }
         requires lies { LiesIn text.now left }
         ensures { IfOk result (λ form. (from : ℕ) → from ≤ length text.now → token_at text.now from ≡ Ok (Some left) → IsForm text.now from form) }
+    {
+        let form = self.form_of(alloc, text, left)?;
+        let tokens = joined(alloc, text, form.tokens.as_slice())?;
+        Ok(Form {
+            tokens,
+            past: form.past,
+            end: form.end,
+        })
+    }
+
+    /// The same, with its tokens as the text has them.
+    fn form_of(&self, alloc: Global, text: &[u8], left: Token) -> Result<Form, OutOfMemory>
+        requires opens { is_left left.kind ≡ true }
+        requires some { left.first < left.past }
+        requires lies { LiesIn text.now left }
+        ensures { IfOk result (λ form. All (λ t. LiesIn text.now t) form.tokens.items × ((from : ℕ) → from ≤ length text.now → token_at text.now from ≡ Ok (Some left) → IsRaw text.now from form)) }
     {
         let mut tokens = Vec::with_capacity(alloc, TOKENS_AT_FIRST)?;
         tokens.push(left)?;

@@ -1,6 +1,6 @@
 //! What a word may be, depending on what is expected.
-ghost use Rattle.std.specs.Prelude.{◌≡◌, ◌||◌};
-ghost use Rattle.ops_grammar.specs.Grammar.{is_left, is_right, is_left_brace, is_right_brace, is_caret, is_name, is_variable, is_arrow, is_literal, is_minus, begins_group, opens_choice, closes_choice, is_inf, is_compute, operation_of, pred_of, constant_of, atom_of, value_of, natural_of, small_of, count_of, strategy_of, is_all, level_of, undone_of};
+ghost use Rattle.std.specs.Prelude.{◌≡◌, ◌||◌, is_some};
+ghost use Rattle.ops_grammar.specs.Grammar.{is_left, is_right, is_left_brace, is_right_brace, is_caret, is_name, is_variable, is_arrow, is_literal, is_minus, begins_group, opens_choice, closes_choice, is_inf, is_compute, operation_of, pred_of, constant_of, atom_of, value_of, natural_of, small_of, count_of, strategy_of, is_all, level_of, undone_of, hole_of};
 
 use ops_base::commands::Strategy;
 use ops_base::expression::Op;
@@ -263,4 +263,21 @@ pub fn undone_of(kind: TokenKind) -> Option<u8>
         Ok(count) if 1 <= count && count <= 32 => Some(count),
         _ => None,
     }
+}
+
+/// The variable of a hole.
+pub fn hole_of(keyword: Keyword) -> Option<Sym>
+    ensures { result ≡ hole_of keyword }
+{
+    match keyword {
+        Keyword::Hole { variable, at: _ } => Some(variable),
+        _ => None,
+    }
+}
+
+/// Whether a word is a hole.
+pub fn is_hole(keyword: Keyword) -> bool
+    ensures { result ≡ is_some (hole_of keyword) }
+{
+    hole_of(keyword).is_some()
 }

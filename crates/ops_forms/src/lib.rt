@@ -6,6 +6,7 @@ pub mod classes;
 pub mod declared;
 pub mod form;
 pub mod kinds;
+pub mod pairs;
 pub mod places;
 pub mod refusals;
 pub mod scope;

@@ -4,8 +4,10 @@ ghost use Rattle.ops_base.specs.Names.{only_nil};
 
 use crate::classes::Classes;
 use crate::declared::Declared;
+use ops_base::actions::Hole;
 use ops_base::list::Listed;
 use ops_base::memory::OutOfMemory;
+use ops_base::rules::Rule;
 use ops_base::symbols::Names;
 use ops_grammar::Named;
 use std::alloc::Global;
@@ -26,6 +28,12 @@ pub struct Scope {
     pub conditions: Listed<Option<usize>>,
     /// How many variables were given a number.
     pub variables: usize,
+    /// How many constants were read.
+    pub counted: usize,
+    /// Those of them that are holes.
+    pub holes: Vec<Hole>,
+    /// The productions that actions build.
+    pub templates: Vec<Rule>,
 }
 
 impl Scope {
@@ -39,6 +47,9 @@ impl Scope {
         ensures cells { IfOk result (λ scope. scope.cells ≡ []) }
         ensures conditions { IfOk result (λ scope. scope.conditions ≡ []) }
         ensures variables { IfOk result (λ scope. scope.variables ≡ 0) }
+        ensures counted { IfOk result (λ scope. scope.counted ≡ 0) }
+        ensures holes { IfOk result (λ scope. scope.holes.items ≡ []) }
+        ensures templates { IfOk result (λ scope. scope.templates.items ≡ []) }
     {
         Ok(Scope {
             text,
@@ -49,6 +60,9 @@ impl Scope {
             cells: Listed::new(alloc),
             conditions: Listed::new(alloc),
             variables: 0,
+            counted: 0,
+            holes: Vec::new(alloc),
+            templates: Vec::new(alloc),
         })
     }
 }

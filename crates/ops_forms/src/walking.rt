@@ -1,6 +1,7 @@
 //! Steps of a walk over words, by place.
 ghost use Rattle.std.specs.Prelude.{◌≡◌, ◌+◌, IfOk, Some, slice_get, true};
 ghost use Rattle.ops_grammar.specs.Grammar.{is_right};
+ghost use Rattle.ops_grammar.specs.Reads.{stands_at};
 ghost use Rattle.ops_grammar.specs.declared.words.Word.{Word};
 ghost use Rattle.ops_forms.specs.Forms.{past_last};
 ghost use Rattle.ops_forms.specs.PlaceWalks.{Takes, ReadsClosing, CutReadsClosing, IsFrom, fault_of};
@@ -8,7 +9,7 @@ ghost use Rattle.ops_forms.specs.PlaceWalks.{Takes, ReadsClosing, CutReadsClosin
 use crate::kinds::is_right;
 use crate::refusals::{ReadFault, Refusal, refused};
 use ops_base::endings::Fault;
-use ops_grammar::Word;
+use ops_grammar::{Keyword, Word};
 use ops_tokens::Token;
 
 /// The word at a place, and the place after it.
@@ -39,7 +40,17 @@ pub fn closing(words: &[Word], at: usize) -> Result<usize, Refusal>
     Ok(rest)
 }
 
-/// A refusal is placed at the first byte of its word, and one without a word at the byte past the last token.
+/// The byte at which a word is refused: its first, or that of its variable if it is a hole for one that is not bound.
+pub fn stands_at(fault: Fault, word: Word) -> usize
+    ensures { result ≡ stands_at fault word }
+{
+    match (fault, word.keyword) {
+        (Fault::UnboundVariable, Keyword::Hole { variable: _, at }) => at,
+        _ => word.first,
+    }
+}
+
+/// A refusal is placed at the byte at which its word is refused, and one without a word at the byte past the last token.
 pub fn fault_of(refusal: Refusal, tokens: &[Token]) -> ReadFault
     ensures { result ≡ fault_of refusal (past_last 0 tokens.now) }
 {
@@ -49,7 +60,7 @@ pub fn fault_of(refusal: Refusal, tokens: &[Token]) -> ReadFault
             word: Some(word),
         } => ReadFault::At {
             fault,
-            at: word.first,
+            at: stands_at(fault, word),
         },
         Refusal::At { fault, word: None } => ReadFault::At {
             fault,

@@ -1,7 +1,9 @@
 //! The words of a text.
-ghost use Rattle.std.specs.Prelude.{◌≡◌, bytes_eq, All, IfOk, OnOk};
+ghost use Rattle.std.specs.Prelude.{◌≡◌, ◌≤◌, not, length, reverse, take_while, bytes_eq, All, IfOk, OnOk};
+ghost use Rattle.ops_base.specs.Names.{place_of};
+ghost use Rattle.ops_tokens.specs.Bytes.{is_white};
 ghost use Rattle.ops_tokens.specs.Tokens.{spelling, LiesIn};
-ghost use Rattle.ops_grammar.specs.Words.{keyword_of, keyword_of_symbol, keyword_of_function, keyword_of_command, keyword_of_operator, has_name, names_with, name_in, word_of, word_before, keyword_before, words_from, names_from};
+ghost use Rattle.ops_grammar.specs.Words.{keyword_in, is_joined, hole_in, keyword_of, keyword_of_symbol, keyword_of_function, keyword_of_command, keyword_of_operator, has_name, names_with, name_in, word_of, word_before, keyword_before, words_from, names_from};
 
 use ops_base::memory::OutOfMemory;
 use ops_base::symbols::Names;
@@ -65,18 +67,83 @@ fn keyword_before(keyword: Keyword, rest: &[Token]) -> Keyword
 
 fn word_of(names: &mut Names, text: &[u8], token: Token) -> Result<Word, OutOfMemory>
     requires { LiesIn text.now token }
-    ensures word { IfOk result (λ word. word ≡ word_of names.old token (spelling text.now token)) }
+    ensures word { IfOk result (λ word. word ≡ word_of text.now names.old token) }
     ensures names { OnOk result (names.new ≡ names_with names.old token.kind (spelling text.now token)) }
 {
-    let spelling = spelling_of(text, &token);
-    let name = name_of(names, token.kind, spelling)?;
+    let keyword = keyword_in(names, text, &token)?;
+    let name = name_of(names, token.kind, spelling_of(text, &token))?;
     Ok(Word {
         kind: token.kind,
-        keyword: keyword_of(token.kind, spelling),
+        keyword,
         name,
         first: token.first,
         past: token.past,
     })
+}
+
+// the keyword of a token, if these names are held before it
+fn keyword_in(names: &mut Names, text: &[u8], token: &Token) -> Result<Keyword, OutOfMemory>
+    requires { LiesIn text.now token.now }
+    ensures keyword { IfOk result (λ keyword. keyword ≡ keyword_in text.now names.old token.now) }
+    ensures names { OnOk result (names.new ≡ names.old) }
+{
+    if is_joined(text, token) {
+        hole_in(names, text, token)
+    } else {
+        Ok(keyword_of(token.kind, spelling_of(text, token)))
+    }
+}
+
+// whether a token is a `\\` or `\` with the variable after it: it is quoted, and begins with no bar
+fn is_joined(text: &[u8], token: &Token) -> bool
+    requires { LiesIn text.now token.now }
+    ensures { result ≡ is_joined text.now token.now }
+{
+    match token.kind {
+        TokenKind::Quoted => text[token.first] != b'|',
+        _ => false,
+    }
+}
+
+// the hole that such a token is
+fn hole_in(names: &mut Names, text: &[u8], token: &Token) -> Result<Keyword, OutOfMemory>
+    requires { LiesIn text.now token.now }
+    ensures hole { IfOk result (λ keyword. keyword ≡ hole_in text.now names.old token.now) }
+    ensures names { OnOk result (names.new ≡ names.old) }
+{
+    let at = token.past - behind_white(&text[token.first..token.past]);
+    let variable = symbol_of(names, &text[at..token.past])?;
+    Ok(Keyword::Hole { variable, at })
+}
+
+// the symbol that a spelling has or would have
+fn symbol_of(names: &mut Names, spelling: &[u8]) -> Result<Sym, OutOfMemory>
+    ensures symbol { IfOk result (λ symbol. symbol.0 ≡ place_of names.old.held spelling.now) }
+    ensures names { OnOk result (names.new ≡ names.old) }
+{
+    let point = names.point();
+    let symbol = names.intern(spelling)?;
+    names.back_to(&point);
+    Ok(symbol)
+}
+
+// space, tab, LF, CR and FF
+fn is_white(byte: u8) -> bool
+    ensures { result ≡ is_white byte }
+{
+    byte == b' ' || byte == b'\t' || byte == b'\n' || byte == b'\r' || byte == 0x0C
+}
+
+// how many bytes stand behind the last white space
+fn behind_white(bytes: &[u8]) -> usize
+    ensures count { result ≡ length (take_while (λ b. not (is_white b)) (reverse bytes.now)) }
+    ensures within { result ≤ length bytes.now }
+{
+    let mut count = 0;
+    for byte in bytes {
+        count = if is_white(*byte) { 0 } else { count + 1 };
+    }
+    count
 }
 
 // the symbol of a token's spelling, if it has a name
@@ -101,7 +168,7 @@ fn has_name(kind: TokenKind) -> bool
     )
 }
 
-fn keyword_of(kind: TokenKind, spelling: &[u8]) -> Keyword
+pub(crate) fn keyword_of(kind: TokenKind, spelling: &[u8]) -> Keyword
     ensures { result ≡ keyword_of kind spelling.now }
 {
     match kind {
@@ -176,6 +243,8 @@ fn keyword_of_symbol(spelling: &[u8]) -> Keyword
         Keyword::Inf
     } else if is(spelling, b"halt") {
         Keyword::Halt
+    } else if is(spelling, b"build") {
+        Keyword::Build
     } else {
         keyword_of_function(spelling)
     }

@@ -31,11 +31,11 @@ none_by (command.Add r) e = absurd (true≢false (sym e))
 none_by _ e = refl
 
 -- another command builds nothing
-pub other_builds : (c : Command) → not (is_add c) ≡ true → command_builds_from 0 c ≡ true
-other_builds (command.Add r) e = absurd (true≢false (sym e))
-other_builds _ e = refl
+pub other_builds : (n : ℕ) (c : Command) → not (is_add c) ≡ true → command_builds_from n c ≡ true
+other_builds n (command.Add r) e = absurd (true≢false (sym e))
+other_builds n _ e = refl
 
-added_other : (cs : List Command) (c : Command) → not (is_add c) ≡ true → added_by (cs ++ c ∷ []) ≡ added_by cs
+pub added_other : (cs : List Command) (c : Command) → not (is_add c) ≡ true → added_by (cs ++ c ∷ []) ≡ added_by cs
 added_other cs c e =
     flat_map-append added cs (c ∷ []) ∙ ap (λ (rs : List Rule). added_by cs ++ (rs ++ [])) (none_by c e) ∙ append-nil (added_by cs)
 

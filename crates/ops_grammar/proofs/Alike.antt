@@ -15,11 +15,11 @@ use Rattle.ops_tokens.specs.declared.token.TokenKind.TheVariants as kind
 use Rattle.ops_grammar.specs.declared.words.Word.{Word}
 use Rattle.ops_grammar.specs.declared.words.Keyword.{Keyword}
 use Rattle.ops_grammar.specs.declared.words.Keyword.TheVariants as keyword
-use Rattle.ops_grammar.specs.Grammar.{Use, InPattern, InPut, InFixed, Target, ToTest, ToTerms, ToConstants, ToItem, ToBind, EndsWhole, Wanted, Forms, Form, ClassDeclared, Attributes, VectorName, VectorNames, RuleName, FirstPattern, Patterns, Pattern, Braced, ElementName, ClosesBrace, ClassName, Terms, Attribute, Several, Place, Tests, Tested, Choice, Atom, ValueFor, Function, Waiting, ExpressionUnit, ExpressionRest, Bracketed, SourceCell, SourceAttribute, SourceEnd, Actions, ActionWord, Modified, BoundName, BoundValue, CellName, Cell, Cells, Items, ItemWord, Columns, Count, StrategyName, TagOrAll, Tags, Shown, NamedRule, NamedRules, Level, Undone, Closes, State, Step, Next, Refuses, is_left, is_right, is_left_brace, is_right_brace, is_caret, is_literal, is_inf, opens_choice, closes_choice, pred_of, with_write, with_constant, constant_of, value_of, atom_of, form, constant_tested, tested, predicated, test, place, chosen, atom_at, constant_at, is_of_action, value_for, number_of, with_bind, most_brackets, completed, unit_bound, unit_at, bracket_at, expression_unit, is_compute, operation_of, operation_at, expression_ended, source_class, terms, within, one_of_several, with_several, step, Members, GroupBrace}
+use Rattle.ops_grammar.specs.Grammar.{Use, InPattern, InPut, InFixed, Target, ToTest, ToTerms, ToConstants, ToItem, ToBind, EndsWhole, Wanted, Forms, Form, ClassDeclared, Attributes, VectorName, VectorNames, RuleName, FirstPattern, Patterns, Pattern, Braced, ElementName, ClosesBrace, ClassName, Terms, Attribute, Several, Place, Tests, Tested, Choice, Atom, ValueFor, Function, Waiting, ExpressionUnit, ExpressionRest, Bracketed, SourceCell, SourceAttribute, SourceEnd, Actions, ActionWord, BuiltName, Modified, BoundName, BoundValue, CellName, Cell, Cells, Items, ItemWord, Columns, Count, StrategyName, TagOrAll, Tags, Shown, NamedRule, NamedRules, Level, Undone, Closes, State, Step, Next, Refuses, is_left, is_right, is_left_brace, is_right_brace, is_caret, is_literal, is_inf, opens_choice, closes_choice, pred_of, with_write, constant_by, with_constant, with_choice_of, constant_of, value_of, atom_of, form, constant_tested, tested, predicated, test, place, chosen, atom_at, constant_at, is_of_action, value_for, number_of, with_bind, most_brackets, completed, unit_bound, unit_at, bracket_at, expression_unit, is_compute, operation_of, operation_at, expression_ended, source_class, terms, within, one_of_several, with_several, step, Members, GroupBrace}
 use Rattle.ops_grammar.specs.Derivation.{is_no_form}
 use Rattle.ops_grammar.specs.Spelling.{spelled_name}
 use Rattle.ops_grammar.specs.Words.{keyword_of_symbol, has_name}
-use Rattle.ops_grammar.proofs.Proper.{is_mark, symbol_unmarked}
+use Rattle.ops_grammar.proofs.Proper.{is_mark, is_hole, no_hole_of, symbol_unmarked}
 
 -- a name may stand here
 abbrev pub wants_name : Wanted → Bool
@@ -28,6 +28,7 @@ wants_name Attributes = true
 wants_name VectorName = true
 wants_name VectorNames = true
 wants_name RuleName = true
+wants_name BuiltName = true
 wants_name ClassName = true
 wants_name (Attribute u) = true
 wants_name (Several u f) = true
@@ -44,6 +45,13 @@ wants_name Shown = true
 wants_name NamedRule = true
 wants_name (NamedRules u) = true
 wants_name _ = false
+
+-- ---- a keyword that is no hole
+
+-- A constant that is no hole is what it is.
+no_hole : (k : Keyword) (next : State → Step) (s : State) → is_hole k ≡ false → constant_by k next s ≡ next s
+no_hole (keyword.Hole variable at) next s e = absurd (true≢false e)
+no_hole _ next s e = refl
 
 -- ---- a keyword that is none of an operator
 
@@ -72,54 +80,56 @@ unmarked_pred _ e = refl
 otherwise : (b : Bool) (x y : Step) → b ≡ false → cond b x y ≡ y
 otherwise b x y e = ap (λ (c : Bool). cond c x y) e
 
-module _ (k : Keyword) (unmarked : is_mark k ≡ false) (name : Sym) (first past : ℕ) (ws : List Wanted) (s : State) where
+module _ (k : Keyword) (unmarked : is_mark k ≡ false) (whole : is_hole k ≡ false) (name : Sym) (first past : ℕ) (ws : List Wanted) (s : State) where
   abbrev symbol : Word
   symbol = record { kind = kind.Symbol; keyword = k; name = name; first = first; past = past }
 
   tested_alike : (f : ℕ) (p : Pred) → tested f p symbol ws s ≡ Next ws (with_constant (ToTest f p) s (value.Symbol name))
-  tested_alike f p = otherwise (is_literal k) _ _ (unmarked_literal k unmarked)
+  tested_alike f p = otherwise (is_literal k) _ _ (unmarked_literal k unmarked) ∙ no_hole k (λ r. Next ws (with_constant (ToTest f p) r (value.Symbol name))) s whole
 
   test_alike : (f : ℕ) → test f symbol ws s ≡ Next ws (with_constant (ToTest f pred.Eq) s (value.Symbol name))
   test_alike f =
       otherwise (opens_choice k) _ _ (unmarked_opening k unmarked) ∙ ap (λ (o : Option Pred). predicated f symbol o ws s) (unmarked_pred k unmarked) ∙ tested_alike f pred.Eq
 
   value_alike : (t : Target) → value_for t symbol ws s ≡ Next ws (with_constant t s (value.Symbol name))
-  value_alike t = otherwise (is_literal k) _ _ (unmarked_literal k unmarked)
+  value_alike t = otherwise (is_literal k) _ _ (unmarked_literal k unmarked) ∙ no_hole k (λ r. Next ws (with_constant t r (value.Symbol name))) s whole
 
 -- Where a name may stand, a plain symbol with a keyword of symbols or none is read as the same name in bars.
-pub symbol-alike : (k : Keyword) (name : Sym) (first past : ℕ) (h : Wanted) (ws : List Wanted) (s : State) → is_mark k ≡ false → wants_name h ≡ true
+pub symbol-alike : (k : Keyword) (name : Sym) (first past : ℕ) (h : Wanted) (ws : List Wanted) (s : State) → is_mark k ≡ false → is_hole k ≡ false → wants_name h ≡ true
     → step (record { kind = kind.Symbol; keyword = k; name = name; first = first; past = past }) (h ∷ ws) s ≡ step (spelled_name name) (h ∷ ws) s
 unfolding step
-symbol-alike k name first past ClassDeclared ws s unmarked e = refl
-symbol-alike k name first past Attributes ws s unmarked e = refl
-symbol-alike k name first past VectorName ws s unmarked e = refl
-symbol-alike k name first past VectorNames ws s unmarked e = refl
-symbol-alike k name first past RuleName ws s unmarked e = refl
-symbol-alike k name first past ClassName ws s unmarked e = refl
-symbol-alike k name first past (Attribute u) ws s unmarked e = refl
-symbol-alike k name first past (Several InPattern f) ws s unmarked e =
-    ap (within (nat_lt f most_fields)) (test_alike k unmarked name first past (Several InPattern (f + 1) ∷ ws) s f)
-symbol-alike k name first past (Several InPut f) ws s unmarked e = value_alike k unmarked name first past (Several InPut f ∷ ws) s ToTerms
-symbol-alike k name first past (Several InFixed f) ws s unmarked e =
-    ap (within (nat_lt (f + length s.constants) most_fields)) (value_alike k unmarked name first past (Several InFixed f ∷ ws) s ToConstants)
-symbol-alike k name first past (Place f) ws s unmarked e = test_alike k unmarked name first past ws s f
-symbol-alike k name first past (Tests f) ws s unmarked e = test_alike k unmarked name first past (Tests f ∷ ws) s f
-symbol-alike k name first past (Tested f p) ws s unmarked e = tested_alike k unmarked name first past ws s f p
-symbol-alike k name first past (Choice f) ws s unmarked e = otherwise (closes_choice k) _ _ (unmarked_closing k unmarked)
-symbol-alike k name first past (Atom t) ws s unmarked e = refl
-symbol-alike k name first past (ValueFor t) ws s unmarked e = value_alike k unmarked name first past ws s t
-symbol-alike k name first past (SourceAttribute t) ws s unmarked e = refl
-symbol-alike k name first past BoundValue ws s unmarked e = value_alike k unmarked name first past (Closes EndsWhole ∷ ws) s ToBind
-symbol-alike k name first past Items ws s unmarked e = value_alike k unmarked name first past (Items ∷ ws) s ToItem
-symbol-alike k name first past Shown ws s unmarked e = refl
-symbol-alike k name first past NamedRule ws s unmarked e = refl
-symbol-alike k name first past (NamedRules u) ws s unmarked e = refl
-symbol-alike k name first past _ ws s unmarked e = absurd (true≢false (sym e))
+symbol-alike k name first past ClassDeclared ws s unmarked whole e = refl
+symbol-alike k name first past Attributes ws s unmarked whole e = refl
+symbol-alike k name first past VectorName ws s unmarked whole e = refl
+symbol-alike k name first past VectorNames ws s unmarked whole e = refl
+symbol-alike k name first past RuleName ws s unmarked whole e = refl
+symbol-alike k name first past BuiltName ws s unmarked whole e = refl
+symbol-alike k name first past ClassName ws s unmarked whole e = refl
+symbol-alike k name first past (Attribute u) ws s unmarked whole e = refl
+symbol-alike k name first past (Several InPattern f) ws s unmarked whole e =
+    ap (within (nat_lt f most_fields)) (test_alike k unmarked whole name first past (Several InPattern (f + 1) ∷ ws) s f)
+symbol-alike k name first past (Several InPut f) ws s unmarked whole e = value_alike k unmarked whole name first past (Several InPut f ∷ ws) s ToTerms
+symbol-alike k name first past (Several InFixed f) ws s unmarked whole e =
+    ap (within (nat_lt (f + length s.constants) most_fields)) (value_alike k unmarked whole name first past (Several InFixed f ∷ ws) s ToConstants)
+symbol-alike k name first past (Place f) ws s unmarked whole e = test_alike k unmarked whole name first past ws s f
+symbol-alike k name first past (Tests f) ws s unmarked whole e = test_alike k unmarked whole name first past (Tests f ∷ ws) s f
+symbol-alike k name first past (Tested f p) ws s unmarked whole e = tested_alike k unmarked whole name first past ws s f p
+symbol-alike k name first past (Choice f) ws s unmarked whole e =
+    otherwise (closes_choice k) _ _ (unmarked_closing k unmarked) ∙ no_hole k (λ r. Next (Choice f ∷ ws) (with_choice_of r (value.Symbol name))) s whole
+symbol-alike k name first past (Atom t) ws s unmarked whole e = no_hole k (λ r. Next ws (with_constant t r (value.Symbol name))) s whole
+symbol-alike k name first past (ValueFor t) ws s unmarked whole e = value_alike k unmarked whole name first past ws s t
+symbol-alike k name first past (SourceAttribute t) ws s unmarked whole e = refl
+symbol-alike k name first past BoundValue ws s unmarked whole e = value_alike k unmarked whole name first past (Closes EndsWhole ∷ ws) s ToBind
+symbol-alike k name first past Items ws s unmarked whole e = value_alike k unmarked whole name first past (Items ∷ ws) s ToItem
+symbol-alike k name first past Shown ws s unmarked whole e = refl
+symbol-alike k name first past NamedRule ws s unmarked whole e = refl
+symbol-alike k name first past (NamedRules u) ws s unmarked whole e = refl
+symbol-alike k name first past _ ws s unmarked whole e = absurd (true≢false (sym e))
 
 -- Where a name may stand, a plain symbol is read as the same name in bars, whatever it spells.
 pub spelling-alike : (spelling : List ℕ) (name : Sym) (first past : ℕ) (h : Wanted) (ws : List Wanted) (s : State) → wants_name h ≡ true
     → step (record { kind = kind.Symbol; keyword = keyword_of_symbol spelling; name = name; first = first; past = past }) (h ∷ ws) s ≡ step (spelled_name name) (h ∷ ws) s
-spelling-alike spelling name first past h ws s e = symbol-alike (keyword_of_symbol spelling) name first past h ws s (symbol_unmarked spelling) e
+spelling-alike spelling name first past h ws s e = symbol-alike (keyword_of_symbol spelling) name first past h ws s (symbol_unmarked spelling) (no_hole_of kind.Symbol spelling) e
 
 -- After the first attribute of a `substr` a plain symbol is read as the same name in bars, but for `inf`.
 pub end-alike : (k : Keyword) (name : Sym) (first past : ℕ) (t : Target) (again : Sym) (ws : List Wanted) (s : State) → is_inf k ≡ false
@@ -137,29 +147,32 @@ atom_named kind.Variable name e = refl
 atom_named kind.Operator name e = refl
 atom_named _ name e = absurd (true≢false (sym e))
 
--- After // each atom that is no number is read as the same name in bars, whatever it spells.
-pub literal-alike : (w : Word) (t : Target) (ws : List Wanted) (s : State) → has_name w.kind ≡ true → step w (Atom t ∷ ws) s ≡ step (spelled_name w.name) (Atom t ∷ ws) s
+-- After // each atom that is no number and no hole is read as the same name in bars, whatever it spells.
+pub literal-alike : (w : Word) (t : Target) (ws : List Wanted) (s : State) → has_name w.kind ≡ true → is_hole w.keyword ≡ false → step w (Atom t ∷ ws) s ≡ step (spelled_name w.name) (Atom t ∷ ws) s
 unfolding step
-literal-alike w t ws s e = ap (λ (o : Option Value). atom_at t o ws s) (atom_named w.kind w.name e)
+literal-alike w t ws s e whole =
+    ap (λ (o : Option Value). atom_at t w.keyword o ws s) (atom_named w.kind w.name e) ∙ no_hole w.keyword (λ r. Next ws (with_constant t r (value.Symbol w.name))) s whole
 
 -- So it is in a disjunction, but for its end.
-pub choice-alike : (w : Word) (f : ℕ) (ws : List Wanted) (s : State) → has_name w.kind ≡ true → closes_choice w.keyword ≡ false → step w (Choice f ∷ ws) s ≡ step (spelled_name w.name) (Choice f ∷ ws) s
+pub choice-alike : (w : Word) (f : ℕ) (ws : List Wanted) (s : State) → has_name w.kind ≡ true → is_hole w.keyword ≡ false → closes_choice w.keyword ≡ false → step w (Choice f ∷ ws) s ≡ step (spelled_name w.name) (Choice f ∷ ws) s
 unfolding step
-choice-alike w f ws s e open_yet =
-    otherwise (closes_choice w.keyword) _ _ open_yet ∙ ap (λ (o : Option Value). chosen o (Choice f ∷ ws) s) (atom_named w.kind w.name e)
+choice-alike w f ws s e whole open_yet =
+    otherwise (closes_choice w.keyword) _ _ open_yet
+    ∙ ap (λ (o : Option Value). chosen w.keyword o (Choice f ∷ ws) s) (atom_named w.kind w.name e)
+    ∙ no_hole w.keyword (λ r. Next (Choice f ∷ ws) (with_choice_of r (value.Symbol w.name))) s whole
 
 -- A value that is an operator but // is read as the same name in bars.
-pub operator-alike : (k : Keyword) (name : Sym) (first past : ℕ) (t : Target) (ws : List Wanted) (s : State) → is_literal k ≡ false
+pub operator-alike : (k : Keyword) (name : Sym) (first past : ℕ) (t : Target) (ws : List Wanted) (s : State) → is_literal k ≡ false → is_hole k ≡ false
     → step (record { kind = kind.Operator; keyword = k; name = name; first = first; past = past }) (ValueFor t ∷ ws) s ≡ step (spelled_name name) (ValueFor t ∷ ws) s
 unfolding step
-operator-alike k name first past t ws s e = otherwise (is_literal k) _ _ e
+operator-alike k name first past t ws s e whole = otherwise (is_literal k) _ _ e ∙ no_hole k (λ r. Next ws (with_constant t r (value.Symbol name))) s whole
 
 -- ---- places
 
 -- the place of a word is kept here: of the bracket that begins a form, and of one that ends the actions
 abbrev pub keeps_place : Wanted → Bool
 keeps_place Forms = true
-keeps_place Actions = true
+keeps_place (Actions b) = true
 keeps_place _ = false
 
 module _ (w : Word) (first past : ℕ) (ws : List Wanted) (s : State) where
@@ -209,7 +222,7 @@ module _ (w : Word) (first past : ℕ) (ws : List Wanted) (s : State) where
 pub moved-alike : (w : Word) (first past : ℕ) (h : Wanted) (ws : List Wanted) (s : State) → keeps_place h ≡ false → step (record w { first = first; past = past }) (h ∷ ws) s ≡ step w (h ∷ ws) s
 unfolding step
 moved-alike w first past Forms ws s e = absurd (true≢false e)
-moved-alike w first past Actions ws s e = absurd (true≢false e)
+moved-alike w first past (Actions b) ws s e = absurd (true≢false e)
 moved-alike w first past Form ws s e = form_moved w first past ws s w.keyword
 moved-alike w first past (Several u f) ws s e =
     ap (λ (x : Step). if is_right w.kind || is_caret w.kind then terms u w ws (with_several u f s) else x) (one_moved w first past ws s u f)
@@ -246,7 +259,8 @@ moved-alike w first past BoundValue ws s e =
 moved-alike w first past SourceCell ws s e = refl
 moved-alike w first past (SourceAttribute t) ws s e = refl
 moved-alike w first past (SourceEnd t name) ws s e = refl
-moved-alike w first past ActionWord ws s e = refl
+moved-alike w first past (ActionWord b) ws s e = refl
+moved-alike w first past BuiltName ws s e = refl
 moved-alike w first past Modified ws s e = refl
 moved-alike w first past BoundName ws s e = refl
 moved-alike w first past CellName ws s e = refl

@@ -1,4 +1,5 @@
 -- While a text is read, an attribute of a class is its vector attribute exactly where its name is one of a vector attribute.
+use Rattle.ops_base.specs.declared.rules.Rule.{Rule}
 use Rattle.std.proofs.Common.{◌≡◌, ℕ, zero, suc, ◌+◌, ◌-◌, ◌<◌, Bool, true, false, ◌&&◌, ◌||◌, ◌==◌, cond, List, [], ◌∷◌, ◌++◌, length, take, length-take, refl, sym, ap, subst, ◌∙◌, arith, Option, Some, None, Result, Ok, Err, nat_lt, unwrap_or, slice_get, position, get_or, true≢false, nat_le}
 use Rattle.std.specs.List.{list_any, All}
 use Rattle.std.proofs.lemmas.Bool.{and_from, and_parts, or_parts, cond_both, eqb-true, eq-eqb, ltb-true}
@@ -27,7 +28,8 @@ use Rattle.ops_tokens.specs.declared.token.TokenKind.TheVariants as kind
 use Rattle.ops_grammar.specs.declared.words.Word.{Word}
 use Rattle.ops_grammar.specs.declared.words.Keyword.{Keyword}
 use Rattle.ops_grammar.specs.declared.words.Keyword.TheVariants as keyword
-use Rattle.ops_grammar.specs.Grammar.{Use, InPattern, InPut, InFixed, Target, ToTest, ToPut, ToFixed, ToTerms, ToConstants, ToItem, ToBind, Ends, EndsHalt, EndsCrlf, EndsCs, EndsExit, EndsWhole, Column, TagUse, ToRemove, NameUse, Wanted, Forms, Form, ClassDeclared, Attributes, VectorName, VectorNames, RuleName, FirstPattern, Patterns, Pattern, Braced, ElementName, ClosesBrace, ClassName, Terms, Attribute, Several, Place, Tests, Tested, Choice, Atom, ValueFor, Function, ExpressionUnit, ExpressionRest, Bracketed, SourceCell, SourceAttribute, SourceEnd, Actions, ActionWord, Modified, BoundName, BoundValue, CellName, Cell, Cells, Items, ItemWord, Columns, Count, StrategyName, TagOrAll, Tags, Shown, NamedRule, NamedRules, Level, Undone, Closes, State, Step, Next, Refuses, is_left, is_right, is_left_brace, is_right_brace, is_caret, is_name, is_variable, is_arrow, is_literal, is_minus, opens_choice, closes_choice, pred_of, constant_of, atom_of, value_of, small_of, is_one_of, number_of, may_declare, is_class, is_rule, form, class_declared, arranged, has_vector, with_class, is_second, attribute_declared, attributes, with_vector, makes_second, vector_declared, vector_name, class_at, class_name, attributes_of, behind_attribute, field_at, with_test, with_put, with_item, with_bind, with_constant, with_bound, variable_tested, constant_tested, tested, predicated, test, place, tests, with_choice, chosen, choice, atom_at, term_at, bound_at, constant_at, is_of_action, value_for, function, no_formula, with_formula, most_brackets, completed, is_compute, operation_of, unit_bound, unit_at, expression_unit, bracketed, operation_at, expression_ended, expression_rest, Waiting, source_named, source_cell, source_class, source_at, source_attribute, takes_several, ends_at_inf, source_end, with_element, terms, within, one_of_several, with_several, several, left_begun, left_ended, right_begun, rule_name, first_pattern, one_more, more_patterns, patterns, element_at, element_name, braced, with_bound_element, with_rule, actions, action_word, with_designated, cell_of, classes_of_cells, with_modified, bound_name, bound_value, with_cell, cell_bound, cell_name, with_remove, cells, with_write, items, item_word, column_item, columns_at, ended, with_command, count_of, counted, count, strategy_of, strategy_set, strategy_name, tag_at, is_all, tag_or_all, with_tags, tags, shown, named_rule, with_named, named_rules, level_of, undone_of, level_set, undone_set, level, undone, step, nothing_read, begins_group, GroupBrace, Members, members, with_group, with_member, with_one, has_room}
+use Rattle.ops_grammar.proofs.Constants.{constant_cases}
+use Rattle.ops_grammar.specs.Grammar.{Use, InPattern, InPut, InFixed, Target, ToTest, ToPut, ToFixed, ToTerms, ToConstants, ToItem, ToBind, Ends, EndsHalt, EndsCrlf, EndsCs, EndsExit, EndsWhole, Column, TagUse, ToRemove, NameUse, Wanted, Forms, Form, ClassDeclared, Attributes, VectorName, VectorNames, RuleName, FirstPattern, Patterns, Pattern, Braced, ElementName, ClosesBrace, ClassName, Terms, Attribute, Several, Place, Tests, Tested, Choice, Atom, ValueFor, Function, ExpressionUnit, ExpressionRest, Bracketed, SourceCell, SourceAttribute, SourceEnd, Actions, ActionWord, Modified, BoundName, BoundValue, CellName, Cell, Cells, Items, ItemWord, Columns, Count, StrategyName, TagOrAll, Tags, Shown, NamedRule, NamedRules, Level, Undone, Closes, State, Step, Next, Refuses, is_left, is_right, is_left_brace, is_right_brace, is_caret, is_name, is_variable, is_arrow, is_literal, is_minus, opens_choice, closes_choice, pred_of, constant_of, atom_of, value_of, small_of, is_one_of, number_of, may_declare, is_class, is_rule, form, class_declared, arranged, has_vector, with_class, is_second, attribute_declared, attributes, with_vector, makes_second, vector_declared, vector_name, class_at, class_name, attributes_of, behind_attribute, field_at, with_test, with_put, with_item, with_bind, with_constant, with_bound, variable_tested, constant_tested, tested, predicated, test, place, tests, with_choice, chosen, choice, atom_at, term_at, bound_at, constant_at, is_of_action, value_for, function, no_formula, with_formula, most_brackets, completed, is_compute, operation_of, unit_bound, unit_at, expression_unit, bracketed, operation_at, expression_ended, expression_rest, Waiting, source_named, source_cell, source_class, source_at, source_attribute, takes_several, ends_at_inf, source_end, with_element, terms, within, one_of_several, with_several, several, left_begun, left_ended, right_begun, rule_name, first_pattern, one_more, more_patterns, patterns, element_at, element_name, braced, with_bound_element, with_rule, actions, action_word, with_designated, cell_of, classes_of_cells, with_modified, bound_name, bound_value, with_cell, cell_bound, cell_name, with_remove, cells, with_write, items, item_word, column_item, columns_at, ended, with_command, count_of, counted, count, strategy_of, strategy_set, strategy_name, tag_at, is_all, tag_or_all, with_tags, tags, shown, named_rule, with_named, named_rules, level_of, undone_of, level_set, undone_set, level, undone, step, nothing_read, begins_group, GroupBrace, Members, members, with_group, with_member, with_one, has_room, with_hole, with_choice_of, constant_by, side_ended, build_ended, with_template, rule_of, Outer, build_word, BuiltName, counting}
 use Rattle.ops_grammar.specs.Spelling.{unnamed, attribute_name, last_field}
 use Rattle.ops_grammar.proofs.PlainClasses.{IsArranged, IsAttributes, class_arranged, classes_arranged, attributes_begun, attribute_pushed}
 
@@ -201,6 +203,10 @@ module _ (w : Word) where
   bind_stays (Some n) t ws s h = rests ws (with_bind (Some n) s t) h
   bind_stays None t ws s h = rests ws (with_bind None s t) h
 
+  bind_counted : (o : Option ℕ) (t : Term) (ws : List Wanted) (s : State) → Rests ws s → AreArranged ws (counting (with_bind o s t))
+  bind_counted (Some n) t ws s h = rests ws (counting (with_bind (Some n) s t)) h
+  bind_counted None t ws s h = rests ws (counting (with_bind None s t)) h
+
   constant_stays : (t : Target) (v : Value) (ws : List Wanted) (s : State) → Rests ws s → AreArranged ws (with_constant t s v)
   constant_stays (ToTest f p) v ws s h = rests ws (with_constant (ToTest f p) s v) h
   constant_stays (ToPut f) v ws s h = rests ws (with_constant (ToPut f) s v) h
@@ -208,7 +214,11 @@ module _ (w : Word) where
   constant_stays ToTerms v ws s h = rests ws (with_constant ToTerms s v) h
   constant_stays ToConstants v ws s h = rests ws (with_constant ToConstants s v) h
   constant_stays ToItem v ws s h = rests ws (with_constant ToItem s v) h
-  constant_stays ToBind v ws s h = bind_stays (number_of s.variable s.values) (term.Constant v) ws s h
+  constant_stays ToBind v ws s h = bind_counted (number_of s.variable s.values) (term.Constant v) ws s h
+
+  constant_word_stays : (t : Target) (v : Value) (ws : List Wanted) (s : State) → Rests ws s → StayArranged (constant_by w.keyword (λ r. Next ws (with_constant t r v)) s)
+  constant_word_stays t v ws s h =
+      constant_cases w.keyword (λ r. Next ws (with_constant t r v)) s StayArranged (λ _. tt) (constant_stays t v ws s h) (λ variable m found. constant_stays t v ws (with_hole s m) h)
 
   variable_tested_stays : (f : ℕ) (p : Pred) (o : Option ℕ) (ws : List Wanted) (s : State) → Rests ws s → StayArranged (variable_tested f p o w.name ws s)
   variable_tested_stays f p (Some n) ws s h = rests ws (with_test s f p (operand.Variable n) false) h
@@ -216,7 +226,7 @@ module _ (w : Word) where
   variable_tested_stays f _ None ws s h = tt
 
   constant_tested_stays : (f : ℕ) (p : Pred) (o : Option Value) (ws : List Wanted) (s : State) → Rests ws s → StayArranged (constant_tested f p w o ws s)
-  constant_tested_stays f p (Some v) ws s h = constant_stays (ToTest f p) v ws s h
+  constant_tested_stays f p (Some v) ws s h = constant_word_stays (ToTest f p) v ws s h
   constant_tested_stays f p None ws s h = cond_both (is_variable w.kind) _ _ StayArranged (λ _. variable_tested_stays f p (number_of w.name s.values) ws s h) (λ _. tt)
 
   tested_stays : (f : ℕ) (p : Pred) (ws : List Wanted) (s : State) → Rests ws s → StayArranged (tested f p w ws s)
@@ -235,8 +245,8 @@ module _ (w : Word) where
   tests_stay : (f : ℕ) (ws : List Wanted) (s : State) → Rests ws s → StayArranged (tests f w ws s)
   tests_stay f ws s h = cond_both (is_right_brace w.kind) _ _ StayArranged (λ _. rests ws s h) (λ _. test_stays f (Tests f ∷ ws) s h)
 
-  chosen_stays : (f : ℕ) (o : Option Value) (ws : List Wanted) (s : State) → Rests ws s → StayArranged (chosen o (Choice f ∷ ws) s)
-  chosen_stays f (Some v) ws s h = h
+  chosen_stays : (f : ℕ) (o : Option Value) (ws : List Wanted) (s : State) → Rests ws s → StayArranged (chosen w.keyword o (Choice f ∷ ws) s)
+  chosen_stays f (Some v) ws s h = constant_cases w.keyword (λ r. Next (Choice f ∷ ws) (with_choice_of r v)) s StayArranged (λ _. tt) h (λ variable m found. h)
   chosen_stays f None ws s h = tt
 
   choice_stays : (f : ℕ) (ws : List Wanted) (s : State) → Rests ws s → StayArranged (choice f w ws s)
@@ -244,8 +254,8 @@ module _ (w : Word) where
 
   -- ---- values
 
-  atom_stays : (t : Target) (o : Option Value) (ws : List Wanted) (s : State) → Rests ws s → StayArranged (atom_at t o ws s)
-  atom_stays t (Some v) ws s h = constant_stays t v ws s h
+  atom_stays : (t : Target) (o : Option Value) (ws : List Wanted) (s : State) → Rests ws s → StayArranged (atom_at t w.keyword o ws s)
+  atom_stays t (Some v) ws s h = constant_word_stays t v ws s h
   atom_stays t None ws s h = tt
 
   term_stays : (t : Target) (x : Term) (ws : List Wanted) (s : State) → Rests ws s → StayArranged (term_at t x ws s)
@@ -260,7 +270,7 @@ module _ (w : Word) where
   bound_stays t None ws s h = tt
 
   constant_at_stays : (t : Target) (o : Option Value) (ws : List Wanted) (s : State) → Rests ws s → StayArranged (constant_at t w o ws s)
-  constant_at_stays t (Some v) ws s h = constant_stays t v ws s h
+  constant_at_stays t (Some v) ws s h = constant_word_stays t v ws s h
   constant_at_stays t None ws s h = cond_both (is_variable w.kind) _ _ StayArranged (λ _. bound_stays t (number_of w.name s.values) ws s h) (λ _. tt)
 
   value_stays : (t : Target) (ws : List Wanted) (s : State) → Rests ws s → StayArranged (value_for t w ws s)
@@ -421,19 +431,32 @@ module _ (w : Word) where
 
   -- ---- actions
 
-  actions_stay : (ws : List Wanted) (s : State) → Rests ws s → StayArranged (actions w ws s)
-  actions_stay ws s h =
-      cond_both (is_right w.kind) _ _ StayArranged (λ _. rests ws (with_rule s w.past) h) (λ _. cond_both (is_left w.kind) _ _ StayArranged (λ _. h) (λ _. tt))
+  side_stays : (b : Bool) (ws : List Wanted) (s : State) → Rests ws s → AreArranged ws (side_ended b s w.past)
+  side_stays false ws s h = rests ws (with_rule s w.past) h
+  side_stays true ws s h = by s.outer (rule_of s w.past)
+    where
+      by : (o : Option Outer) (r : Rule) → AreArranged ws (build_ended o s r)
+      by (Some o) r = rests ws (with_template o s r) h
+      by None r = rests ws s h
 
-  action_word_stays : (k : Keyword) (ws : List Wanted) (s : State) → Rests ws s → StayArranged (action_word k ws s)
-  action_word_stays keyword.Make ws s h = h
-  action_word_stays keyword.Modify ws s h = h
-  action_word_stays keyword.Remove ws s h = h
-  action_word_stays keyword.Write ws s h = h
-  action_word_stays keyword.Bind ws s h = h
-  action_word_stays keyword.Cbind ws s h = h
-  action_word_stays keyword.Halt ws s h = h
-  action_word_stays _ ws s h = tt
+  actions_stay : (b : Bool) (ws : List Wanted) (s : State) → Rests ws s → StayArranged (actions b w ws s)
+  actions_stay b ws s h =
+      cond_both (is_right w.kind) _ _ StayArranged (λ _. side_stays b ws s h) (λ _. cond_both (is_left w.kind) _ _ StayArranged (λ _. h) (λ _. tt))
+
+  build_stays : (b : Bool) (ws : List Wanted) (s : State) → Rests ws s → StayArranged (build_word b ws s)
+  build_stays true ws s h = tt
+  build_stays false ws s h = h
+
+  action_word_stays : (b : Bool) (k : Keyword) (ws : List Wanted) (s : State) → Rests ws s → StayArranged (action_word b k ws s)
+  action_word_stays b keyword.Make ws s h = h
+  action_word_stays b keyword.Modify ws s h = h
+  action_word_stays b keyword.Remove ws s h = h
+  action_word_stays b keyword.Write ws s h = h
+  action_word_stays b keyword.Bind ws s h = h
+  action_word_stays b keyword.Cbind ws s h = h
+  action_word_stays b keyword.Halt ws s h = h
+  action_word_stays b keyword.Build ws s h = build_stays b ws s h
+  action_word_stays b _ ws s h = tt
 
   designated_stays : (r : Result ℕ Fault) (ws : List Wanted) (s : State) → Rests ws s → StayArranged (with_designated r ws s)
   designated_stays (Ok c) ws s h = rests ws (record s { cells = s.cells ++ c ∷ [] }) h
@@ -579,8 +602,9 @@ stays_arranged w (Bracketed d ∷ ws) s h = bracketed_stays w d ws s h
 stays_arranged w (SourceCell ∷ ws) s h = source_cell_stays w ws s h
 stays_arranged w (SourceAttribute t ∷ ws) s h = source_attribute_stays w t ws s h
 stays_arranged w (SourceEnd t name ∷ ws) s h = source_end_stays w t name ws s h.0
-stays_arranged w (Actions ∷ ws) s h = actions_stay w ws s h
-stays_arranged w (ActionWord ∷ ws) s h = action_word_stays w w.keyword ws s h
+stays_arranged w (Actions b ∷ ws) s h = actions_stay w b ws s h
+stays_arranged w (ActionWord b ∷ ws) s h = action_word_stays w b w.keyword ws s h
+stays_arranged w (BuiltName ∷ ws) s h = cond_both (is_name w.kind) _ _ StayArranged (λ _. rests ws (record s { name = w.name }) h) (λ _. tt)
 stays_arranged w (Modified ∷ ws) s h = modified_stays w (cell_of w.kind w.name s) ws s h
 stays_arranged w (BoundName ∷ ws) s h = bound_name_stays w ws s h
 stays_arranged w (BoundValue ∷ ws) s h = bound_value_stays w ws s h

@@ -7,8 +7,8 @@ use Rattle.ops_tokens.specs.declared.token.TokenKind.TheVariants as kind
 use Rattle.ops_grammar.specs.declared.words.Word.{Word}
 use Rattle.ops_grammar.specs.declared.words.Keyword.{Keyword}
 use Rattle.ops_grammar.specs.declared.words.Keyword.TheVariants as keyword
-use Rattle.ops_grammar.specs.Grammar.{Use, InPattern, InPut, InFixed, Wanted, Forms, Form, ClassDeclared, Attributes, VectorName, VectorNames, RuleName, FirstPattern, Patterns, Pattern, Braced, ElementName, ClosesBrace, ClassName, Terms, Attribute, Several, Place, Tests, Tested, Choice, Atom, ValueFor, Function, ExpressionUnit, ExpressionRest, Bracketed, SourceCell, SourceAttribute, SourceEnd, Actions, ActionWord, Modified, BoundName, BoundValue, CellName, Cell, Cells, Items, ItemWord, Columns, Count, StrategyName, TagOrAll, Tags, Shown, NamedRule, NamedRules, Level, Undone, Closes, is_name, is_one_of, behind_attribute, GroupBrace, Members}
-use Rattle.ops_grammar.specs.Derivation.{with_name, Derives, nothing, no_form, a_class, no_attribute, a_vector, no_more_vectors, a_rule, a_first, a_whole_pattern, a_name_before, an_element_name, a_closed_brace, an_arrow, a_run, no_count, no_strategy_name, all_tags, no_more_tags, all_shown, a_named_rule, no_more_rules, no_level, one_undone, a_class_name, no_term, a_scalar_attribute, a_vector_attribute, no_more_of_several, a_value, a_unit, a_bracketed_expression, no_operation, a_substr, a_source, a_source_attribute, the_same_again, an_atom, no_more_tests, an_operand, a_tested_operand, no_more_choices, no_action, to_halt, a_modified, a_bound_name, no_bound_value, a_cell_name, a_cell, no_more_cells, no_item, a_crlf, some_columns, a_closing, a_group, a_member, no_member}
+use Rattle.ops_grammar.specs.Grammar.{Use, InPattern, InPut, InFixed, Wanted, Forms, Form, ClassDeclared, Attributes, VectorName, VectorNames, RuleName, FirstPattern, Patterns, Pattern, Braced, ElementName, ClosesBrace, ClassName, Terms, Attribute, Several, Place, Tests, Tested, Choice, Atom, ValueFor, Function, ExpressionUnit, ExpressionRest, Bracketed, SourceCell, SourceAttribute, SourceEnd, Actions, ActionWord, Modified, BoundName, BoundValue, CellName, Cell, Cells, Items, ItemWord, Columns, Count, StrategyName, TagOrAll, Tags, Shown, NamedRule, NamedRules, Level, Undone, Closes, is_name, is_one_of, behind_attribute, GroupBrace, Members, BuiltName}
+use Rattle.ops_grammar.specs.Derivation.{with_name, Derives, nothing, no_form, a_class, no_attribute, a_vector, no_more_vectors, a_rule, a_first, a_whole_pattern, a_name_before, an_element_name, a_closed_brace, an_arrow, a_run, no_count, no_strategy_name, all_tags, no_more_tags, all_shown, a_named_rule, no_more_rules, no_level, one_undone, a_class_name, no_term, a_scalar_attribute, a_vector_attribute, no_more_of_several, a_value, a_unit, a_bracketed_expression, no_operation, a_substr, a_source, a_source_attribute, the_same_again, an_atom, no_more_tests, an_operand, a_tested_operand, no_more_choices, no_action, to_halt, a_modified, a_bound_name, no_bound_value, a_cell_name, a_cell, no_more_cells, no_item, a_crlf, some_columns, a_closing, a_group, a_member, no_member, a_built_name}
 
 abbrev closing : Word
 closing = record { kind = kind.Right; keyword = keyword.Other; name = record { 0 = 0 }; first = 0; past = 0 }
@@ -62,6 +62,7 @@ complete vs Attributes ws c = (closing ∷ (c vs).0, no_attribute refl (c vs).1)
 complete vs VectorName ws c = let k = c (with_name (record { 0 = 0 }) vs) in (named keyword.Other ∷ k.0, a_vector refl k.1)
 complete vs VectorNames ws c = (closing ∷ (c vs).0, no_more_vectors refl (c vs).1)
 complete vs RuleName ws c = (named keyword.Other ∷ (c vs).0, a_rule refl (c vs).1)
+complete vs BuiltName ws c = (named keyword.Other ∷ (c vs).0, a_built_name refl (c vs).1)
 complete vs FirstPattern ws c = (opening ∷ named keyword.Other ∷ closing ∷ (c vs).0, a_first refl (a_class_name refl (no_term refl (c vs).1)))
 complete vs GroupBrace ws c = (opening_brace ∷ opening ∷ named keyword.Other ∷ closing ∷ opening ∷ named keyword.Other ∷ closing ∷ closing_brace ∷ (c vs).0, a_group refl (a_member refl (a_class_name refl (no_term refl (a_member refl (a_class_name refl (no_term refl (no_member refl refl (c vs).1))))))))
 complete vs (Members n) ws c = (opening ∷ named keyword.Other ∷ closing ∷ opening ∷ named keyword.Other ∷ closing ∷ closing_brace ∷ (c vs).0, a_member refl (a_class_name refl (no_term refl (a_member refl (a_class_name refl (no_term refl (no_member refl (le-leb 2 (suc (suc n)) (omega arith)) (c vs).1)))))))
@@ -91,8 +92,8 @@ complete vs SourceCell ws c = (variable ∷ (c vs).0, a_source refl (c vs).1)
 complete vs (SourceAttribute t) ws c =
     (named keyword.Other ∷ named keyword.Other ∷ closing ∷ (c vs).0, a_source_attribute refl (the_same_again refl refl refl (a_closing refl (c vs).1)))
 complete vs (SourceEnd t name) ws c = (again name ∷ (c vs).0, the_same_again refl (eq-eqb name.0 name.0 refl) refl (c vs).1)
-complete vs Actions ws c = (closing ∷ (c vs).0, no_action refl (c vs).1)
-complete vs ActionWord ws c = (named keyword.Halt ∷ closing ∷ (c vs).0, to_halt refl (a_closing refl (c vs).1))
+complete vs (Actions b) ws c = (closing ∷ (c vs).0, no_action refl (c vs).1)
+complete vs (ActionWord b) ws c = (named keyword.Halt ∷ closing ∷ (c vs).0, to_halt refl (a_closing refl (c vs).1))
 complete vs Modified ws c = (number ∷ (c vs).0, a_modified refl (c vs).1)
 complete vs BoundName ws c = (variable ∷ (c vs).0, a_bound_name refl (c vs).1)
 complete vs BoundValue ws c = (closing ∷ (c vs).0, no_bound_value refl (c vs).1)

@@ -1,4 +1,5 @@
 -- What a word does, against the grammar alone.
+use Rattle.ops_base.specs.declared.rules.Rule.{Rule}
 use Rattle.std.proofs.Common.{◌≡◌, ℕ, suc, arith, ◌+◌, Bool, true, false, not, ◌&&◌, ◌||◌, List, [], ◌∷◌, ◌++◌, ◌∙◌, cond, refl, sym, ap, Option, Some, None, Result, Ok, Err, true≢false, subst, ◌==◌, nat_lt, length, is_some, position, slice_get, nat_le}
 use Rattle.std.proofs.lemmas.Bool.{cond_both, or_right, and_from, and_parts}
 use Rattle.ops_base.specs.declared.values.Sym.{Sym}
@@ -17,8 +18,9 @@ use Rattle.ops_tokens.specs.declared.token.TokenKind.TheVariants as kind
 use Rattle.ops_grammar.specs.declared.words.Word.{Word}
 use Rattle.ops_grammar.specs.declared.words.Keyword.{Keyword}
 use Rattle.ops_grammar.specs.declared.words.Keyword.TheVariants as keyword
-use Rattle.ops_grammar.specs.Grammar.{Use, InPattern, InPut, InFixed, Target, ToTest, ToPut, ToFixed, ToTerms, ToConstants, ToItem, ToBind, Ends, EndsHalt, EndsCrlf, EndsCs, EndsExit, EndsWhole, TagUse, ToRemove, NameUse, Column, Wanted, Forms, Form, ClassDeclared, Attributes, VectorName, VectorNames, RuleName, FirstPattern, Patterns, Pattern, Braced, ElementName, ClosesBrace, ClassName, Terms, Attribute, Several, Place, Tests, Tested, Choice, Atom, ValueFor, Function, Waiting, ExpressionUnit, ExpressionRest, Bracketed, SourceCell, SourceAttribute, SourceEnd, Actions, ActionWord, Modified, BoundName, BoundValue, CellName, Cell, Cells, Items, ItemWord, Columns, Count, StrategyName, TagOrAll, Tags, Shown, NamedRule, NamedRules, Level, Undone, Closes, State, Step, Next, Refuses, is_left, is_right, is_left_brace, is_right_brace, is_caret, is_name, is_variable, is_arrow, is_literal, is_inf, is_minus, opens_choice, closes_choice, pred_of, constant_of, value_of, atom_of, small_of, is_one_of, number_of, may_declare, is_class, is_rule, form, class_declared, is_second, attributes, makes_second, vector_declared, vector_name, vector_names, class_at, class_name, attributes_of, behind_attribute, field_at, attribute, with_bind, with_constant, variable_tested, constant_tested, tested, predicated, test, place, tests, chosen, choice, atom_at, term_at, bound_at, constant_at, is_of_action, value_for, most_brackets, no_formula, with_formula, unit_bound, unit_at, expression_unit, bracketed, is_compute, operation_of, operation_at, expression_ended, expression_rest, function, source_named, source_cell, source_class, source_at, source_attribute, takes_several, ends_at_inf, source_end, with_element, terms, within, one_of_several, with_several, several, rule_name, first_pattern, one_more, patterns, pattern, element_at, element_name, braced, closes_brace, actions, action_word, cell_of, with_designated, cell, with_modified, modified, bound_name, bound_value, cell_bound, cell_name, cells, items, item_word, columns_at, counted, count_of, count, strategy_set, strategy_of, strategy_name, tag_at, is_all, tag_or_all, tags, shown, named_rule, named_rules, level_of, undone_of, level_set, undone_set, level, undone, ended, closes, forms, step, begins_group, GroupBrace, Members, members, group, has_room}
-use Rattle.ops_grammar.specs.Derivation.{is_whole, is_designator, is_operand, is_value, is_choice, with_name, Derives, a_form, a_literalize, a_class, an_attribute, no_attribute, a_vector_declaration, a_vector, one_more_vector, no_more_vectors, a_production, a_rule, a_first, a_braced_first, a_negated_first, a_pattern, a_braced_pattern, a_negated_pattern, a_whole_pattern, a_name_before, a_name_behind, an_element_name, a_closed_brace, an_arrow, a_make, a_run, a_count, no_count, a_strategy, a_strategy_name, no_strategy_name, a_remove_command, all_tags, a_first_tag, a_wm, one_more_tag, no_more_tags, a_ppwm, a_shown_class, all_shown, a_cs, an_exit, a_pm, a_pbreak, a_named_rule, one_more_rule, no_more_rules, a_watch, a_back, a_level, some_undone, no_level, one_undone, a_class_name, a_term, no_term, a_scalar_attribute, a_vector_attribute, one_more_place, one_more_term, one_more_constant, no_more_of_several, a_value, a_literal_value, a_function, a_compute, a_genatom, an_accept, a_unit, a_bracketed_unit, a_bracketed_compute, a_bracketed_expression, an_operation, no_operation, a_substr, a_source, a_source_attribute, the_same_again, up_to_inf, an_atom, a_conjunction, no_more_tests, an_operand, a_literal, a_predicate, a_disjunction, one_more_operand, one_more_literal, one_more_predicate, one_more_disjunction, a_tested_operand, a_tested_literal, one_more_choice, no_more_choices, an_action, no_action, to_make, to_modify, to_bind, to_cbind, to_remove, to_write, to_halt, a_modified, a_bound_name, a_bound_value, no_bound_value, a_cell_name, a_cell, one_more_cell, no_more_cells, an_item, a_literal_item, an_item_form, no_item, a_crlf, a_tab, a_right, a_function_item, some_columns, a_closing, is_no_form, a_group, a_member, no_member, a_group_first, a_group_pattern, an_excise, a_matches}
+use Rattle.ops_grammar.specs.Grammar.{Use, InPattern, InPut, InFixed, Target, ToTest, ToPut, ToFixed, ToTerms, ToConstants, ToItem, ToBind, Ends, EndsHalt, EndsCrlf, EndsCs, EndsExit, EndsWhole, TagUse, ToRemove, NameUse, Column, Wanted, Forms, Form, ClassDeclared, Attributes, VectorName, VectorNames, RuleName, FirstPattern, Patterns, Pattern, Braced, ElementName, ClosesBrace, ClassName, Terms, Attribute, Several, Place, Tests, Tested, Choice, Atom, ValueFor, Function, Waiting, ExpressionUnit, ExpressionRest, Bracketed, SourceCell, SourceAttribute, SourceEnd, Actions, ActionWord, Modified, BoundName, BoundValue, CellName, Cell, Cells, Items, ItemWord, Columns, Count, StrategyName, TagOrAll, Tags, Shown, NamedRule, NamedRules, Level, Undone, Closes, State, Step, Next, Refuses, is_left, is_right, is_left_brace, is_right_brace, is_caret, is_name, is_variable, is_arrow, is_literal, is_inf, is_minus, opens_choice, closes_choice, pred_of, constant_of, value_of, atom_of, small_of, is_one_of, number_of, may_declare, is_class, is_rule, form, class_declared, is_second, attributes, makes_second, vector_declared, vector_name, vector_names, class_at, class_name, attributes_of, behind_attribute, field_at, attribute, with_bind, with_constant, variable_tested, constant_tested, tested, predicated, test, place, tests, chosen, choice, atom_at, term_at, bound_at, constant_at, is_of_action, value_for, most_brackets, no_formula, with_formula, unit_bound, unit_at, expression_unit, bracketed, is_compute, operation_of, operation_at, expression_ended, expression_rest, function, source_named, source_cell, source_class, source_at, source_attribute, takes_several, ends_at_inf, source_end, with_element, terms, within, one_of_several, with_several, several, rule_name, first_pattern, one_more, patterns, pattern, element_at, element_name, braced, closes_brace, actions, action_word, cell_of, with_designated, cell, with_modified, modified, bound_name, bound_value, cell_bound, cell_name, cells, items, item_word, columns_at, counted, count_of, count, strategy_set, strategy_of, strategy_name, tag_at, is_all, tag_or_all, tags, shown, named_rule, named_rules, level_of, undone_of, level_set, undone_set, level, undone, ended, closes, forms, step, begins_group, GroupBrace, Members, members, group, has_room, BuiltName, with_hole, with_choice_of, Outer, side_ended, build_ended, rule_of, build_word}
+use Rattle.ops_grammar.specs.Derivation.{is_whole, is_designator, is_operand, is_value, is_choice, with_name, Derives, a_form, a_literalize, a_class, an_attribute, no_attribute, a_vector_declaration, a_vector, one_more_vector, no_more_vectors, a_production, a_rule, a_first, a_braced_first, a_negated_first, a_pattern, a_braced_pattern, a_negated_pattern, a_whole_pattern, a_name_before, a_name_behind, an_element_name, a_closed_brace, an_arrow, a_make, a_run, a_count, no_count, a_strategy, a_strategy_name, no_strategy_name, a_remove_command, all_tags, a_first_tag, a_wm, one_more_tag, no_more_tags, a_ppwm, a_shown_class, all_shown, a_cs, an_exit, a_pm, a_pbreak, a_named_rule, one_more_rule, no_more_rules, a_watch, a_back, a_level, some_undone, no_level, one_undone, a_class_name, a_term, no_term, a_scalar_attribute, a_vector_attribute, one_more_place, one_more_term, one_more_constant, no_more_of_several, a_value, a_literal_value, a_function, a_compute, a_genatom, an_accept, a_unit, a_bracketed_unit, a_bracketed_compute, a_bracketed_expression, an_operation, no_operation, a_substr, a_source, a_source_attribute, the_same_again, up_to_inf, an_atom, a_conjunction, no_more_tests, an_operand, a_literal, a_predicate, a_disjunction, one_more_operand, one_more_literal, one_more_predicate, one_more_disjunction, a_tested_operand, a_tested_literal, one_more_choice, no_more_choices, an_action, no_action, to_make, to_modify, to_bind, to_cbind, to_remove, to_write, to_halt, a_modified, a_bound_name, a_bound_value, no_bound_value, a_cell_name, a_cell, one_more_cell, no_more_cells, an_item, a_literal_item, an_item_form, no_item, a_crlf, a_tab, a_right, a_function_item, some_columns, a_closing, is_no_form, a_group, a_member, no_member, a_group_first, a_group_pattern, an_excise, a_matches, a_built_name, to_build}
+use Rattle.ops_grammar.proofs.Constants.{constant_cases}
 use Rattle.ops_grammar.proofs.Completed.{completed, attribute_completed}
 use Rattle.ops_grammar.proofs.Arranged.{AreArranged, StayArranged, stays_arranged, kind_agrees}
 
@@ -285,7 +287,9 @@ module _ (w : Word) (ws : List Wanted) (s : State) where
     variable_tested_continues more f _ None = λ _. behind head ws' more
 
     constant_tested_continues : (is_operand w ≡ true → (ts : List Word) → Derives s.vectors ws' ts → Derives s.vectors head (w ∷ ts)) → (f : ℕ) (p : Pred) (o : Option Value) → constant_of w.kind w.name ≡ o → Continues s.vectors head w (constant_tested f p w o ws' s)
-    constant_tested_continues more f p (Some v) e = (stay, more (constant_operand w v e))
+    constant_tested_continues more f p (Some v) e =
+        constant_cases w.keyword (λ r. Next ws' (with_constant (ToTest f p) r v)) s (Continues s.vectors head w) (λ _ _. behind head ws' (more (constant_operand w v e))) (stay, more (constant_operand w v e))
+        (λ variable m found. (stay, more (constant_operand w v e)))
     constant_tested_continues more f p None e =
         cond_both (is_variable w.kind) _ _ (Continues s.vectors head w)
         (λ is. variable_tested_continues (more (variable_operand w is)) f p (number_of w.name s.values)) (λ _ f. no_fault f)
@@ -328,7 +332,10 @@ module _ (w : Word) (ws : List Wanted) (s : State) where
       bound_at_continues e None = λ _. behind head ws' (more e)
 
       constant_at_continues : is_literal w.keyword ≡ false → (o : Option Value) → value_of w.kind w.name ≡ o → Continues s.vectors head w (constant_at t w o ws' s)
-      constant_at_continues l (Some v) e = (stay, kept (with_constant t s v) (constant_vectors t s v) head ws' (more (constant_value w v l e)))
+      constant_at_continues l (Some v) e =
+          constant_cases w.keyword (λ r. Next ws' (with_constant t r v)) s (Continues s.vectors head w) (λ _ _. behind head ws' (more (constant_value w v l e)))
+          (stay, kept (with_constant t s v) (constant_vectors t s v) head ws' (more (constant_value w v l e)))
+          (λ variable m found. (stay, kept (with_constant t (with_hole s m) v) (constant_vectors t (with_hole s m) v) head ws' (more (constant_value w v l e))))
       constant_at_continues l None e =
           cond_both (is_variable w.kind) _ _ (Continues s.vectors head w) (λ is. bound_at_continues (variable_value w l is) (number_of w.name s.values)) (λ _ f. no_fault f)
 
@@ -346,7 +353,7 @@ module _ (w : Word) (ws : List Wanted) (s : State) where
   -- `compute`, `genatom`, `accept` and `substr`
   function_continues : (t : Target) (k : Keyword) → w.keyword ≡ k → Continues s.vectors (Function t ∷ ws) w (function t k ws s)
   function_continues t keyword.Substr e = (λ h. h, λ ts d. a_substr e d)
-  function_continues t keyword.Compute e = (λ h. h, λ ts d. a_compute e d)
+  function_continues t keyword.Compute e = (λ h. h, λ ts d. a_compute _ e d)
   function_continues t keyword.Genatom e = term_at_continues (Function t ∷ ws) (Closes EndsWhole ∷ ws) (λ h. h) (λ ts d. a_genatom e d) t term.Fresh
   function_continues t keyword.Accept e = term_at_continues (Function t ∷ ws) (Closes EndsWhole ∷ ws) (λ h. h) (λ ts d. an_accept e d) t term.Accept
   function_continues t _ e = λ f. no_fault f
@@ -422,8 +429,10 @@ module _ (w : Word) (ws : List Wanted) (s : State) where
       (λ _. test_continues (Tests f ∷ ws) (Tests f ∷ ws) (λ h. h) f (λ e ts d. one_more_operand e d) (λ e ts d. one_more_literal e d)
       (λ p e ts d. one_more_predicate e d) (λ e ts d. one_more_disjunction e d))
 
-  chosen_continues : (f : ℕ) → closes_choice w.keyword ≡ false → (o : Option Value) → atom_of w.kind w.name ≡ o → Continues s.vectors (Choice f ∷ ws) w (chosen o (Choice f ∷ ws) s)
-  chosen_continues f c (Some v) e = (λ h. h, λ ts d. one_more_choice (atom_choice w v c e) d)
+  chosen_continues : (f : ℕ) → closes_choice w.keyword ≡ false → (o : Option Value) → atom_of w.kind w.name ≡ o → Continues s.vectors (Choice f ∷ ws) w (chosen w.keyword o (Choice f ∷ ws) s)
+  chosen_continues f c (Some v) e =
+      constant_cases w.keyword (λ r. Next (Choice f ∷ ws) (with_choice_of r v)) s (Continues s.vectors (Choice f ∷ ws) w) (λ _ _. behind (Choice f ∷ ws) (Choice f ∷ ws) (λ ts d. one_more_choice (atom_choice w v c e) d))
+      (λ h. h, λ ts d. one_more_choice (atom_choice w v c e) d) (λ variable m found. (λ h. h, λ ts d. one_more_choice (atom_choice w v c e) d))
   chosen_continues f c None e = λ f. no_fault f
 
   choice_continues : (f : ℕ) → Continues s.vectors (Choice f ∷ ws) w (choice f w ws s)
@@ -431,24 +440,41 @@ module _ (w : Word) (ws : List Wanted) (s : State) where
       cond_both (closes_choice w.keyword) _ _ (Continues s.vectors (Choice f ∷ ws) w) (λ e. (λ h. h, λ ts d. no_more_choices e d))
       (λ c. chosen_continues f c (atom_of w.kind w.name) refl)
 
-  atom_continues : (t : Target) (o : Option Value) → atom_of w.kind w.name ≡ o → Continues s.vectors (Atom t ∷ ws) w (atom_at t o ws s)
-  atom_continues t (Some v) e = (λ h. h, kept (with_constant t s v) (constant_vectors t s v) (Atom t ∷ ws) ws (λ ts d. an_atom (ap (λ (o : Option Value). is_some o) e) d))
+  atom_continues : (t : Target) (o : Option Value) → atom_of w.kind w.name ≡ o → Continues s.vectors (Atom t ∷ ws) w (atom_at t w.keyword o ws s)
+  atom_continues t (Some v) e =
+      let more : (ts : List Word) → Derives s.vectors ws ts → Derives s.vectors (Atom t ∷ ws) (w ∷ ts) = λ ts d. an_atom (ap (λ (o : Option Value). is_some o) e) d in
+      constant_cases w.keyword (λ r. Next ws (with_constant t r v)) s (Continues s.vectors (Atom t ∷ ws) w) (λ _ _. behind (Atom t ∷ ws) ws more)
+      (λ h. h, kept (with_constant t s v) (constant_vectors t s v) (Atom t ∷ ws) ws more)
+      (λ variable m found. (λ h. h, kept (with_constant t (with_hole s m) v) (constant_vectors t (with_hole s m) v) (Atom t ∷ ws) ws more))
   atom_continues t None e = λ f. no_fault f
 
-  actions_continue : Continues s.vectors (Actions ∷ ws) w (actions w ws s)
-  actions_continue =
-      cond_both (is_right w.kind) _ _ (Continues s.vectors (Actions ∷ ws) w) (λ e. (λ h. h, λ ts d. no_action e d))
-      (λ _. cond_both (is_left w.kind) _ _ (Continues s.vectors (Actions ∷ ws) w) (λ e. (λ h. h, λ ts d. an_action e d)) (λ _ f. no_fault f))
+  pub side_vectors : (b : Bool) (past : ℕ) → (side_ended b s past).vectors ≡ s.vectors
+  side_vectors true past = by s.outer (rule_of s past)
+    where
+      by : (o : Option Outer) (r : Rule) → (build_ended o s r).vectors ≡ s.vectors
+      by (Some o) r = refl
+      by None r = refl
+  side_vectors false past = refl
 
-  action_word_continues : (k : Keyword) → w.keyword ≡ k → Continues s.vectors (ActionWord ∷ ws) w (action_word k ws s)
-  action_word_continues keyword.Make e = (λ h. h, λ ts d. to_make e d)
-  action_word_continues keyword.Modify e = (λ h. h, λ ts d. to_modify e d)
-  action_word_continues keyword.Bind e = (λ h. h, λ ts d. to_bind e d)
-  action_word_continues keyword.Cbind e = (λ h. h, λ ts d. to_cbind e d)
-  action_word_continues keyword.Remove e = (λ h. h, λ ts d. to_remove e d)
-  action_word_continues keyword.Write e = (λ h. h, λ ts d. to_write e d)
-  action_word_continues keyword.Halt e = (λ h. h, λ ts d. to_halt e d)
-  action_word_continues _ e = λ f. no_fault f
+  actions_continue : (b : Bool) → Continues s.vectors (Actions b ∷ ws) w (actions b w ws s)
+  actions_continue b =
+      cond_both (is_right w.kind) _ _ (Continues s.vectors (Actions b ∷ ws) w) (λ e. (λ h. h, kept (side_ended b s w.past) (side_vectors b w.past) (Actions b ∷ ws) ws (λ ts d. no_action e d)))
+      (λ _. cond_both (is_left w.kind) _ _ (Continues s.vectors (Actions b ∷ ws) w) (λ e. (λ h. h, λ ts d. an_action e d)) (λ _ f. no_fault f))
+
+  build_continues : (b : Bool) → w.keyword ≡ keyword.Build → Continues s.vectors (ActionWord b ∷ ws) w (build_word b ws s)
+  build_continues true e = λ f. no_fault f
+  build_continues false e = (λ h. h, λ ts d. to_build e d)
+
+  action_word_continues : (b : Bool) (k : Keyword) → w.keyword ≡ k → Continues s.vectors (ActionWord b ∷ ws) w (action_word b k ws s)
+  action_word_continues b keyword.Make e = (λ h. h, λ ts d. to_make e d)
+  action_word_continues b keyword.Modify e = (λ h. h, λ ts d. to_modify e d)
+  action_word_continues b keyword.Bind e = (λ h. h, λ ts d. to_bind e d)
+  action_word_continues b keyword.Cbind e = (λ h. h, λ ts d. to_cbind e d)
+  action_word_continues b keyword.Remove e = (λ h. h, λ ts d. to_remove e d)
+  action_word_continues b keyword.Write e = (λ h. h, λ ts d. to_write e d)
+  action_word_continues b keyword.Halt e = (λ h. h, λ ts d. to_halt e d)
+  action_word_continues b keyword.Build e = build_continues b e
+  action_word_continues b _ e = λ f. no_fault f
 
   -- a designator, unless the word is refused as one that continues no form
   abbrev IsDesignator : Result ℕ Fault → Type 0
@@ -517,7 +543,7 @@ module _ (w : Word) (ws : List Wanted) (s : State) where
   item_word_continues keyword.Tabto e = (λ h. h, λ ts d. a_tab e d)
   item_word_continues keyword.Rjust e = (λ h. h, λ ts d. a_right e d)
   item_word_continues keyword.Substr e = (λ h. h, λ ts d. a_function_item (a_substr e d))
-  item_word_continues keyword.Compute e = (λ h. h, λ ts d. a_function_item (a_compute e d))
+  item_word_continues keyword.Compute e = (λ h. h, λ ts d. a_function_item (a_compute _ e d))
   item_word_continues keyword.Genatom e = (λ h. h, λ ts d. a_function_item (a_genatom e d))
   item_word_continues keyword.Accept e = (λ h. h, λ ts d. a_function_item (an_accept e d))
   item_word_continues _ e = λ f. no_fault f
@@ -679,8 +705,9 @@ step_continues w (Bracketed d ∷ ws) s a = bracketed_continues w ws s d
 step_continues w (SourceCell ∷ ws) s a = source_cell_continues w ws s
 step_continues w (SourceAttribute t ∷ ws) s a = source_attribute_continues w ws s t
 step_continues w (SourceEnd t name ∷ ws) s a = source_end_continues w ws s t name a.2
-step_continues w (Actions ∷ ws) s a = actions_continue w ws s
-step_continues w (ActionWord ∷ ws) s a = action_word_continues w ws s w.keyword refl
+step_continues w (Actions b ∷ ws) s a = actions_continue w ws s b
+step_continues w (ActionWord b ∷ ws) s a = action_word_continues w ws s b w.keyword refl
+step_continues w (BuiltName ∷ ws) s a = cond_both (is_name w.kind) _ _ (Continues s.vectors (BuiltName ∷ ws) w) (λ e. (λ h. h, λ ts d. a_built_name e d)) (λ _ f. no_fault f)
 step_continues w (Modified ∷ ws) s a = modified_continues w ws s
 step_continues w (BoundName ∷ ws) s a = bound_name_continues w ws s
 step_continues w (BoundValue ∷ ws) s a = bound_value_continues w ws s

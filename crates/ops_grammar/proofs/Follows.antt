@@ -1,7 +1,7 @@
 -- What the machine does at a word that the grammar derives.
 use Rattle.std.proofs.Common.{◌≡◌, ℕ, suc, arith, ◌+◌, ◌-◌, Bool, true, false, not, ◌&&◌, ◌||◌, ◌==◌, List, [], ◌∷◌, ◌++◌, length, take, refl, sym, ap, subst, ◌∙◌, cond, ◌⊎◌, inl, inr, Option, Some, None, Result, Ok, Err, true≢false, nat_lt, is_some, position, slice_get, nat_le}
 use Rattle.std.specs.List.{list_any}
-use Rattle.std.proofs.lemmas.Bool.{cond_both, and_parts, and_from, or_left, or_right}
+use Rattle.std.proofs.lemmas.Bool.{cond_both, and_parts, and_from, or_left, or_right, or_parts}
 use Rattle.ops_base.specs.declared.values.Sym.{Sym}
 use Rattle.ops_base.specs.declared.values.Value.{Value}
 use Rattle.ops_base.specs.declared.values.Pred.{Pred}
@@ -19,12 +19,13 @@ use Rattle.ops_tokens.specs.declared.token.TokenKind.TheVariants as kind
 use Rattle.ops_grammar.specs.declared.words.Word.{Word}
 use Rattle.ops_grammar.specs.declared.words.Keyword.{Keyword}
 use Rattle.ops_grammar.specs.declared.words.Keyword.TheVariants as keyword
-use Rattle.ops_grammar.specs.Grammar.{Use, InPattern, InPut, InFixed, Target, ToTest, ToPut, ToTerms, ToConstants, ToItem, ToBind, EndsWhole, ToRemove, Column, Wanted, Forms, Attribute, VectorNames, Patterns, Pattern, Braced, ClosesBrace, ClassName, Terms, Several, Place, Tests, Choice, ValueFor, Function, Waiting, ExpressionUnit, ExpressionRest, Bracketed, SourceEnd, Atom, Tested, BoundValue, Cells, Items, ItemWord, Tags, Closes, State, Step, Next, Refuses, is_left, is_right, is_left_brace, is_right_brace, is_caret, is_name, is_variable, is_arrow, is_literal, is_inf, is_minus, opens_choice, closes_choice, pred_of, constant_of, value_of, atom_of, natural_of, small_of, is_one_of, number_of, may_declare, is_class, is_rule, is_second, makes_second, vector_declared, form, class_at, attributes_of, behind_attribute, field_at, with_bind, with_constant, variable_tested, constant_tested, tested, predicated, test, place, tests, chosen, atom_at, term_at, bound_at, constant_at, is_of_action, value_for, most_brackets, no_formula, with_formula, unit_bound, unit_at, expression_unit, is_compute, operation_of, operation_at, expression_ended, function, source_named, source_class, source_at, takes_several, ends_at_inf, source_end, with_element, terms, within, one_of_several, with_several, several, one_more, element_at, action_word, designated, numbered_cell, named_cell, cell_of, with_designated, with_modified, cell_bound, item_word, columns_at, counted, count_of, strategy_set, strategy_of, tag_at, is_all, level_of, undone_of, level_set, undone_set, ended, step, is_absent, begins_group, has_room}
-use Rattle.ops_grammar.specs.Derivation.{is_designator, is_operand, is_value, with_name, Derives, nothing, no_form, a_form, a_literalize, a_class, an_attribute, no_attribute, a_vector_declaration, a_vector, one_more_vector, no_more_vectors, a_production, a_rule, a_first, a_braced_first, a_negated_first, a_pattern, a_braced_pattern, a_negated_pattern, a_whole_pattern, a_name_before, a_name_behind, an_element_name, a_closed_brace, an_arrow, a_make, a_run, a_count, no_count, a_strategy, a_strategy_name, no_strategy_name, a_remove_command, all_tags, a_first_tag, a_wm, one_more_tag, no_more_tags, a_ppwm, a_shown_class, all_shown, a_cs, an_exit, a_pm, a_pbreak, a_named_rule, one_more_rule, no_more_rules, a_watch, a_back, a_level, some_undone, no_level, one_undone, a_class_name, a_term, no_term, a_scalar_attribute, a_vector_attribute, one_more_place, one_more_term, one_more_constant, no_more_of_several, a_value, a_literal_value, a_function, a_compute, a_genatom, an_accept, a_unit, a_bracketed_unit, a_bracketed_compute, a_bracketed_expression, an_operation, no_operation, a_substr, a_source, a_source_attribute, the_same_again, up_to_inf, an_atom, a_conjunction, no_more_tests, an_operand, a_literal, a_predicate, a_disjunction, one_more_operand, one_more_literal, one_more_predicate, one_more_disjunction, a_tested_operand, a_tested_literal, one_more_choice, no_more_choices, an_action, no_action, to_make, to_modify, to_bind, to_cbind, to_remove, to_write, to_halt, a_modified, a_bound_name, a_bound_value, no_bound_value, a_cell_name, a_cell, one_more_cell, no_more_cells, an_item, a_literal_item, an_item_form, no_item, a_crlf, a_tab, a_right, a_function_item, some_columns, a_closing, is_no_form, a_group, a_member, no_member, a_group_first, a_group_pattern, an_excise, a_matches}
+use Rattle.ops_grammar.specs.Grammar.{Use, InPattern, InPut, InFixed, Target, ToTest, ToPut, ToTerms, ToConstants, ToItem, ToBind, EndsWhole, ToRemove, Column, Wanted, Forms, Attribute, VectorNames, Patterns, Pattern, Braced, ClosesBrace, ClassName, Terms, Several, Place, Tests, Choice, ValueFor, Function, Waiting, ExpressionUnit, ExpressionRest, Bracketed, SourceEnd, Atom, Tested, BoundValue, Cells, Items, ItemWord, Tags, Closes, State, Step, Next, Refuses, is_left, is_right, is_left_brace, is_right_brace, is_caret, is_name, is_variable, is_arrow, is_literal, is_inf, is_minus, opens_choice, closes_choice, pred_of, constant_of, value_of, atom_of, natural_of, small_of, is_one_of, number_of, may_declare, is_class, is_rule, is_second, makes_second, vector_declared, form, class_at, attributes_of, behind_attribute, field_at, with_bind, with_constant, variable_tested, constant_tested, tested, predicated, test, place, tests, chosen, atom_at, term_at, bound_at, constant_at, is_of_action, value_for, most_brackets, no_formula, with_formula, unit_bound, unit_at, expression_unit, is_compute, operation_of, operation_at, expression_ended, function, source_named, source_class, source_at, takes_several, ends_at_inf, source_end, with_element, terms, within, one_of_several, with_several, several, one_more, element_at, action_word, designated, numbered_cell, named_cell, cell_of, with_designated, with_modified, cell_bound, item_word, columns_at, counted, count_of, strategy_set, strategy_of, tag_at, is_all, level_of, undone_of, level_set, undone_set, ended, step, is_absent, begins_group, has_room, with_hole, with_choice_of, constant_by, function_depth, is_built, side_ended}
+use Rattle.ops_grammar.specs.Derivation.{is_designator, is_operand, is_value, with_name, Derives, nothing, no_form, a_form, a_literalize, a_class, an_attribute, no_attribute, a_vector_declaration, a_vector, one_more_vector, no_more_vectors, a_production, a_rule, a_first, a_braced_first, a_negated_first, a_pattern, a_braced_pattern, a_negated_pattern, a_whole_pattern, a_name_before, a_name_behind, an_element_name, a_closed_brace, an_arrow, a_make, a_run, a_count, no_count, a_strategy, a_strategy_name, no_strategy_name, a_remove_command, all_tags, a_first_tag, a_wm, one_more_tag, no_more_tags, a_ppwm, a_shown_class, all_shown, a_cs, an_exit, a_pm, a_pbreak, a_named_rule, one_more_rule, no_more_rules, a_watch, a_back, a_level, some_undone, no_level, one_undone, a_class_name, a_term, no_term, a_scalar_attribute, a_vector_attribute, one_more_place, one_more_term, one_more_constant, no_more_of_several, a_value, a_literal_value, a_function, a_compute, a_genatom, an_accept, a_unit, a_bracketed_unit, a_bracketed_compute, a_bracketed_expression, an_operation, no_operation, a_substr, a_source, a_source_attribute, the_same_again, up_to_inf, an_atom, a_conjunction, no_more_tests, an_operand, a_literal, a_predicate, a_disjunction, one_more_operand, one_more_literal, one_more_predicate, one_more_disjunction, a_tested_operand, a_tested_literal, one_more_choice, no_more_choices, an_action, no_action, to_make, to_modify, to_bind, to_cbind, to_remove, to_write, to_halt, a_modified, a_bound_name, a_bound_value, no_bound_value, a_cell_name, a_cell, one_more_cell, no_more_cells, an_item, a_literal_item, an_item_form, no_item, a_crlf, a_tab, a_right, a_function_item, some_columns, a_closing, is_no_form, a_group, a_member, no_member, a_group_first, a_group_pattern, an_excise, a_matches, a_built_name, to_build}
+use Rattle.ops_grammar.proofs.Constants.{constant_cases}
 use Rattle.ops_grammar.proofs.Arranged.{AreArranged, kind_agrees}
-use Rattle.ops_grammar.proofs.Derived.{forms_last, bind_vectors, constant_vectors, element_vectors, ended_vectors}
-use Rattle.ops_grammar.proofs.Moved.{at_any_place, several_at_any_place, whatever_waits}
-use Rattle.ops_grammar.proofs.Proper.{is_other, is_mark, may_have, is_proper, arrow_marks, literal_marks, minus_marks, opening_marks, pred_marks, literal_no_opening, literal_no_pred, minus_no_arrow, pred_no_opening, not_met, mark_kind, no_mark, group_marks, group_no_arrow, group_no_minus}
+use Rattle.ops_grammar.proofs.Derived.{forms_last, bind_vectors, constant_vectors, element_vectors, ended_vectors, side_vectors}
+use Rattle.ops_grammar.proofs.Moved.{at_any_place, several_at_any_place, whatever_waits, at_any_depth}
+use Rattle.ops_grammar.proofs.Proper.{is_other, is_mark, may_have, is_proper, arrow_marks, literal_marks, minus_marks, opening_marks, pred_marks, literal_no_opening, literal_no_pred, minus_no_arrow, pred_no_opening, not_met, mark_kind, no_mark, group_marks, group_no_arrow, group_no_minus, is_hole}
 
 -- What derives goes on where the word is taken, and the word is refused in a form at most.
 abbrev pub Went : Word → List Word → Step → Type 0
@@ -149,32 +150,37 @@ operand_unmarked : {A : Type 0} (w : Word) → is_operand w ≡ true → is_mark
 operand_unmarked w e mark proper = no_mark w (λ k. is_some (constant_of k w.name) || is_variable k) refl mark e proper
 
 -- a word with a keyword is a symbol or an operator
-keyword_kind : (k : TokenKind) (w : Keyword) → is_other w ≡ false → may_have k w ≡ true → (k ≡ kind.Operator) ⊎ (k ≡ kind.Symbol)
+keyword_kind : (k : TokenKind) (w : Keyword) → (is_other w || is_hole w) ≡ false → may_have k w ≡ true → (k ≡ kind.Operator) ⊎ (k ≡ kind.Symbol)
 keyword_kind kind.Operator w named p = inl refl
 keyword_kind kind.Symbol w named p = inr refl
-keyword_kind _ w named p = absurd (true≢false (sym p ∙ named))
+keyword_kind kind.Quoted w named p = absurd (true≢false (sym p ∙ named))
+keyword_kind _ w named p = absurd (true≢false (sym p ∙ (or_parts (is_other w) (is_hole w) named).0))
 
-no_keyword : {A : Type 0} (w : Word) (is : TokenKind → Bool) → is kind.Operator ≡ false → is kind.Symbol ≡ false → is_other w.keyword ≡ false → is w.kind ≡ true → is_proper w ≡ true → A
+no_keyword : {A : Type 0} (w : Word) (is : TokenKind → Bool) → is kind.Operator ≡ false → is kind.Symbol ≡ false → (is_other w.keyword || is_hole w.keyword) ≡ false → is w.kind ≡ true → is_proper w ≡ true → A
 no_keyword w is operator symbol named e proper =
     elim (keyword_kind w.kind w.keyword named proper) [
       | inl same ↦ absurd (true≢false (sym e ∙ ap is same ∙ operator))
       | inr same ↦ absurd (true≢false (sym e ∙ ap is same ∙ symbol))
     ]
 
-operation_named : (k : Keyword) → is_some (operation_of k) ≡ true → is_other k ≡ false
+operation_named : (k : Keyword) → is_some (operation_of k) ≡ true → (is_other k || is_hole k) ≡ false
 operation_named keyword.Other e = absurd (true≢false (sym e))
+operation_named (keyword.Hole variable at) e = absurd (true≢false (sym e))
 operation_named _ e = refl
 
-compute_named : (k : Keyword) → is_compute k ≡ true → is_other k ≡ false
+compute_named : (k : Keyword) → is_compute k ≡ true → (is_other k || is_hole k) ≡ false
 compute_named keyword.Other e = absurd (true≢false (sym e))
+compute_named (keyword.Hole variable at) e = absurd (true≢false (sym e))
 compute_named _ e = refl
 
-strategy_named : (k : Keyword) → is_some (strategy_of k) ≡ true → is_other k ≡ false
+strategy_named : (k : Keyword) → is_some (strategy_of k) ≡ true → (is_other k || is_hole k) ≡ false
 strategy_named keyword.Other e = absurd (true≢false (sym e))
+strategy_named (keyword.Hole variable at) e = absurd (true≢false (sym e))
 strategy_named _ e = refl
 
-all_named : (k : Keyword) → is_all k ≡ true → is_other k ≡ false
+all_named : (k : Keyword) → is_all k ≡ true → (is_other k || is_hole k) ≡ false
 all_named keyword.Other e = absurd (true≢false (sym e))
+all_named (keyword.Hole variable at) e = absurd (true≢false (sym e))
 all_named _ e = refl
 
 -- a unit does not begin with `compute`
@@ -212,8 +218,8 @@ module _ (w : Word) (ts : List Word) where
     form_goes : (k : Keyword) → w.keyword ≡ k → Went w ts (form w k ws s) → Went w ts (form w w.keyword ws s)
     form_goes k e h = subst (λ (x : Keyword). Went w ts (form w x ws s)) (sym e) h
 
-    action_goes : (k : Keyword) → w.keyword ≡ k → Went w ts (action_word k ws s) → Went w ts (action_word w.keyword ws s)
-    action_goes k e h = subst (λ (x : Keyword). Went w ts (action_word x ws s)) (sym e) h
+    action_goes : (b : Bool) (k : Keyword) → w.keyword ≡ k → Went w ts (action_word b k ws s) → Went w ts (action_word b w.keyword ws s)
+    action_goes b k e h = subst (λ (x : Keyword). Went w ts (action_word b x ws s)) (sym e) h
 
     function_goes : (t : Target) (k : Keyword) → w.keyword ≡ k → Went w ts (function t k ws s) → Went w ts (function t w.keyword ws s)
     function_goes t k e h = subst (λ (x : Keyword). Went w ts (function t x ws s)) (sym e) h
@@ -247,7 +253,7 @@ module _ (w : Word) (ts : List Word) where
     variable_goes f _ None d = refl
 
     constant_goes : (f : ℕ) (p : Pred) (o : Option Value) → (is_some o || is_variable w.kind) ≡ true → Derives s.vectors ws ts → Went w ts (constant_tested f p w o ws s)
-    constant_goes f p (Some v) e d = λ _. d
+    constant_goes f p (Some v) e d = constant_cases w.keyword (λ r. Next ws (with_constant (ToTest f p) r v)) s (Went w ts) (λ _. refl) (λ _. d) (λ variable m found _. d)
     constant_goes f p None e d = met (is_variable w.kind) _ _ e (variable_goes f p (number_of w.name s.values) d)
 
     operand_goes : (f : ℕ) (p : Pred) → is_operand w ≡ true → Derives s.vectors ws ts → Went w ts (tested f p w ws s)
@@ -284,12 +290,17 @@ module _ (w : Word) (ts : List Word) where
     tests_go f mark h = cond_both (is_right_brace w.kind) _ _ (Went w ts) (λ b proper. no_mark w is_right_brace refl mark b proper) (λ _. h)
 
     -- atoms
-    chosen_goes : (o : Option Value) → is_some o ≡ true → Derives s.vectors ws ts → Went w ts (chosen o ws s)
-    chosen_goes (Some v) e d = λ _. d
+    chosen_goes : (o : Option Value) → is_some o ≡ true → Derives s.vectors ws ts → Went w ts (chosen w.keyword o ws s)
+    chosen_goes (Some v) e d = constant_cases w.keyword (λ r. Next ws (with_choice_of r v)) s (Went w ts) (λ _. refl) (λ _. d) (λ variable m found _. d)
     chosen_goes None e d = absurd (true≢false (sym e))
 
-    atom_goes : (t : Target) (o : Option Value) → is_some o ≡ true → Derives s.vectors ws ts → Went w ts (atom_at t o ws s)
-    atom_goes t (Some v) e d = λ _. same_names (with_constant t s v) (constant_vectors t s v) d
+    constant_word_goes : (t : Target) (v : Value) → Derives s.vectors ws ts → Went w ts (constant_by w.keyword (λ r. Next ws (with_constant t r v)) s)
+    constant_word_goes t v d =
+        constant_cases w.keyword (λ r. Next ws (with_constant t r v)) s (Went w ts) (λ _. refl) (λ _. same_names (with_constant t s v) (constant_vectors t s v) d)
+        (λ variable m found _. same_names (with_constant t (with_hole s m) v) (constant_vectors t (with_hole s m) v) d)
+
+    atom_goes : (t : Target) (o : Option Value) → is_some o ≡ true → Derives s.vectors ws ts → Went w ts (atom_at t w.keyword o ws s)
+    atom_goes t (Some v) e d = constant_word_goes t v d
     atom_goes t None e d = absurd (true≢false (sym e))
 
     -- a value
@@ -306,7 +317,7 @@ module _ (w : Word) (ts : List Word) where
     bound_goes t None d = refl
 
     constant_at_goes : (t : Target) (o : Option Value) → (is_some o || is_variable w.kind) ≡ true → Derives s.vectors ws ts → Went w ts (constant_at t w o ws s)
-    constant_at_goes t (Some v) e d = λ _. same_names (with_constant t s v) (constant_vectors t s v) d
+    constant_at_goes t (Some v) e d = constant_word_goes t v d
     constant_at_goes t None e d = met (is_variable w.kind) _ _ e (bound_goes t (number_of w.name s.values) d)
 
     value_goes : (t : Target) → is_value w ≡ true → Derives s.vectors ws ts → Went w ts (value_for t w ws s)
@@ -684,7 +695,8 @@ derived_goes ws words s a (a_value {t = t} {ws = rest} {w = w} {ts = ts} e d) la
 derived_goes ws words s a (a_literal_value {w = w} {ts = ts} e d) last = met w ts (is_literal w.keyword) _ _ e (λ _. d)
 derived_goes ws words s a (a_function {t = t} {ws = rest} {w = w} {ts = ts} e of_action d) last = called_goes w ts rest s t e of_action d
 derived_goes ws words s a (a_substr {t = t} {ws = rest} {w = w} {ts = ts} e d) last = function_goes w ts rest s t keyword.Substr e (λ _. d)
-derived_goes ws words s a (a_compute {t = t} {ws = rest} {w = w} {ts = ts} e d) last = function_goes w ts rest s t keyword.Compute e (λ _. d)
+derived_goes ws words s a (a_compute {t = t} depth {ws = rest} {w = w} {ts = ts} e d) last =
+    function_goes w ts rest s t keyword.Compute e (λ _. at_any_depth s.vectors depth t rest ts d (function_depth (is_built s)))
 derived_goes ws words s a (a_genatom {t = t} {ws = rest} {w = w} {ts = ts} e d) last =
     function_goes w ts rest s t keyword.Genatom e (term_goes w ts (Closes EndsWhole ∷ rest) s t term.Fresh d)
 derived_goes ws words s a (an_accept {t = t} {ws = rest} {w = w} {ts = ts} e d) last =
@@ -735,14 +747,17 @@ derived_goes ws words s a (one_more_choice {f = f} {ws = rest} {w = w} {ts = ts}
 derived_goes ws words s a (no_more_choices {w = w} {ts = ts} e d) last = met w ts (closes_choice w.keyword) _ _ e (λ _. d)
 derived_goes ws words s a (an_action {w = w} {ts = ts} e d) last =
     unmet w ts (is_right w.kind) _ _ (left_not_right w.kind e) (met w ts (is_left w.kind) _ _ e (λ _. d))
-derived_goes ws words s a (no_action {w = w} {ts = ts} e d) last = met w ts (is_right w.kind) _ _ e (λ _. d)
-derived_goes ws words s a (to_make {ws = rest} {w = w} {ts = ts} e d) last = action_goes w ts rest s keyword.Make e (λ _. d)
-derived_goes ws words s a (to_modify {ws = rest} {w = w} {ts = ts} e d) last = action_goes w ts rest s keyword.Modify e (λ _. d)
-derived_goes ws words s a (to_bind {ws = rest} {w = w} {ts = ts} e d) last = action_goes w ts rest s keyword.Bind e (λ _. d)
-derived_goes ws words s a (to_cbind {ws = rest} {w = w} {ts = ts} e d) last = action_goes w ts rest s keyword.Cbind e (λ _. d)
-derived_goes ws words s a (to_remove {ws = rest} {w = w} {ts = ts} e d) last = action_goes w ts rest s keyword.Remove e (λ _. d)
-derived_goes ws words s a (to_write {ws = rest} {w = w} {ts = ts} e d) last = action_goes w ts rest s keyword.Write e (λ _. d)
-derived_goes ws words s a (to_halt {ws = rest} {w = w} {ts = ts} e d) last = action_goes w ts rest s keyword.Halt e (λ _. d)
+derived_goes ws words s a (no_action {b = b} {ws = rest} {w = w} {ts = ts} e d) last =
+    met w ts (is_right w.kind) _ _ e (λ _. same_names w ts rest s (side_ended b s w.past) (side_vectors w rest s b w.past) d)
+derived_goes ws words s a (to_make {b = b} {ws = rest} {w = w} {ts = ts} e d) last = action_goes w ts rest s b keyword.Make e (λ _. d)
+derived_goes ws words s a (to_modify {b = b} {ws = rest} {w = w} {ts = ts} e d) last = action_goes w ts rest s b keyword.Modify e (λ _. d)
+derived_goes ws words s a (to_bind {b = b} {ws = rest} {w = w} {ts = ts} e d) last = action_goes w ts rest s b keyword.Bind e (λ _. d)
+derived_goes ws words s a (to_cbind {b = b} {ws = rest} {w = w} {ts = ts} e d) last = action_goes w ts rest s b keyword.Cbind e (λ _. d)
+derived_goes ws words s a (to_remove {b = b} {ws = rest} {w = w} {ts = ts} e d) last = action_goes w ts rest s b keyword.Remove e (λ _. d)
+derived_goes ws words s a (to_write {b = b} {ws = rest} {w = w} {ts = ts} e d) last = action_goes w ts rest s b keyword.Write e (λ _. d)
+derived_goes ws words s a (to_halt {b = b} {ws = rest} {w = w} {ts = ts} e d) last = action_goes w ts rest s b keyword.Halt e (λ _. d)
+derived_goes ws words s a (to_build {ws = rest} {w = w} {ts = ts} e d) last = action_goes w ts rest s false keyword.Build e (λ _. d)
+derived_goes ws words s a (a_built_name {w = w} {ts = ts} e d) last = met w ts (is_name w.kind) _ _ e (λ _. d)
 derived_goes ws words s a (a_modified {ws = rest} {w = w} {ts = ts} e d) last =
     modified_goes w ts rest s (cell_of w.kind w.name s) (cell_in_form w ts rest s w.kind e) d
 derived_goes ws words s a (a_bound_name {w = w} {ts = ts} e d) last = met w ts (is_variable w.kind) _ _ e (λ _. d)

@@ -1,9 +1,9 @@
 -- What was read stays valid where one more part of it stands at the end.
-use Rattle.std.proofs.Common.{◌≡◌, ℕ, ◌+◌, ◌-◌, ◌<◌, ◌≤◌, zero, suc, Bool, true, false, not, ◌&&◌, ◌||◌, ◌==◌, cond, List, [], ◌∷◌, ◌++◌, length, map, refl, sym, ap, subst, ◌∙◌, arith, Option, Some, None, nat_lt, nat_le, take, unwrap_or, true≢false, length-append, append-nil, append_assoc}
+use Rattle.std.proofs.Common.{◌≡◌, ℕ, ◌+◌, ◌-◌, ◌<◌, ◌≤◌, zero, suc, Bool, true, false, not, ◌&&◌, ◌||◌, ◌==◌, cond, List, [], ◌∷◌, ◌++◌, length, map, refl, sym, ap, subst, ◌∙◌, arith, Option, Some, None, nat_lt, nat_le, take, unwrap_or, true≢false, length-append, append-nil, append_assoc, is_some}
 use Rattle.std.specs.List.{list_all, list_any}
 use Rattle.std.proofs.lemmas.Bool.{and_parts, and_from, or_left, or_right, cond_both, cond-true, eq-eqb, eqb-true, ltb-true, lt-ltb, leb-true, le-leb}
 use Rattle.std.proofs.lemmas.List.{map-append, take-append-le, take_all}
-use Rattle.std.proofs.lemmas.List.Folds.{list_any-append}
+use Rattle.std.proofs.lemmas.List.Folds.{list_any-append, list_all-append}
 use Rattle.std.proofs.lemmas.Option.{slice_get-get_or}
 use Rattle.ops_base.specs.declared.values.Sym.{Sym}
 use Rattle.ops_base.specs.declared.values.Value.{Value}
@@ -20,16 +20,17 @@ use Rattle.ops_base.specs.declared.actions.Term.{Term}
 use Rattle.ops_base.specs.declared.actions.Term.TheVariants as term
 use Rattle.ops_base.specs.declared.actions.Put.{Put}
 use Rattle.ops_base.specs.declared.actions.Action.{Action}
+use Rattle.ops_base.specs.declared.actions.Hole.{Hole}
 use Rattle.ops_base.specs.declared.actions.Action.TheVariants as action
 use Rattle.ops_base.specs.declared.rules.Rule.{Rule}
 use Rattle.ops_base.specs.declared.commands.Command.{Command}
 use Rattle.ops_base.specs.declared.commands.Command.TheVariants as command
-use Rattle.ops_base.specs.Valid.{longest_list, most_fields, most_conditions, fits, is_in, are_distinct, no_class, class_of, class_is_valid, is_attribute, is_vector, is_field, Sight, operand_is_valid, tests_are_valid, sight_after_tests, nothing_in_sight, cells_of, is_cell, specificity, known_of, Known, known_after, term_is_valid, put_is_valid, action_is_valid, fixed_is_valid, elements_of, builds_from, command_is_valid}
+use Rattle.ops_base.specs.Valid.{longest_list, most_fields, most_conditions, fits, is_in, are_distinct, no_class, class_of, class_is_valid, is_attribute, is_vector, is_field, Sight, operand_is_valid, tests_are_valid, sight_after_tests, nothing_in_sight, cells_of, is_cell, specificity, known_of, Known, known_after, term_is_valid, put_is_valid, action_is_valid, fixed_is_valid, elements_of, builds_from, command_is_valid, template_is_valid, rule_is_valid, rule_builds_from, command_builds_from, is_build}
 use Rattle.ops_grammar.specs.declared.words.Named.{Named}
-use Rattle.ops_grammar.specs.Grammar.{is_one_of, number_of, renumbered, precedes_classes, arranged, has_vector, with_vector_last, put_action, precedes_rules, rules_with, commands_with}
+use Rattle.ops_grammar.specs.Grammar.{is_one_of, number_of, renumbered, precedes_classes, arranged, has_vector, with_vector_last, put_action, precedes_rules, rules_with, commands_with, Outer, values_around}
 use Rattle.ops_grammar.proofs.Lists.{all_push, all_none, all_weaker, all_at, all_in, any_some, named_apart, cond_alike, length-parted, parted_distinct}
 use Rattle.ops_grammar.proofs.Parts.{tests_push, sight_push, conditions_push, sight_conditions_push, actions_push, known_push, first_push, some_cell, cells_push, elements_push, members_push, sight_members_push, first_push_group, elements_push_group}
-use Rattle.ops_grammar.proofs.Sound.{IsProgram, IsDeclaring, IsClass, numbers, Variables, seen, all_below, IsHead, known, Side, Knows, IsBody, IsNamed, inside, command_is_sound, rule_is_sound, other_is_sound, IsNew}
+use Rattle.ops_grammar.proofs.Sound.{IsProgram, IsDeclaring, IsClass, numbers, Variables, seen, all_below, IsHead, known, Side, Knows, IsBody, IsNamed, IsOuter, Stands, allowed, side_in, inside, command_is_sound, rule_is_sound, other_is_sound, IsNew}
 use Rattle.ops_grammar.specs.Spelling.{is_add}
 use Rattle.ops_grammar.proofs.Added.{other_builds, late_other, late_rule, titles_front, titles_behind, titles_other}
 
@@ -59,43 +60,45 @@ class_arranged vectors attrs name vector few distinct some =
     (some_attribute vector (length (arranged vectors attrs)) (λ v. let lt = some v in omega (arith, same, lt)))
 
 -- a command after which a class may be declared is valid whatever classes there are
-valid_anywhere : (text : ℕ) (classes others : List Class) (c : Command) → precedes_classes c ≡ true → command_is_sound classes text c ≡ true
-    → command_is_sound others text c ≡ true
-valid_anywhere text classes others (command.Make class puts) before h = absurd (true≢false (sym before))
-valid_anywhere text classes others (command.Run count) before h = absurd (true≢false (sym before))
-valid_anywhere text classes others (command.Ppwm pattern) before h = absurd (true≢false (sym before))
-valid_anywhere text classes others (command.Add r) before h = absurd (true≢false (sym before))
-valid_anywhere text classes others (command.Remove tags) before h = h
-valid_anywhere text classes others (command.Wm tags) before h = h
-valid_anywhere text classes others (command.Pm names) before h = h
-valid_anywhere text classes others (command.Watch None) before h = h
-valid_anywhere text classes others (command.Watch (Some n)) before h = h
-valid_anywhere text classes others (command.Pbreak names) before h = h
-valid_anywhere text classes others (command.Excise names) before h = h
-valid_anywhere text classes others (command.Back count) before h = h
-valid_anywhere text classes others (command.Matches names) before h = h
-valid_anywhere text classes others command.RemoveAll before h = refl
-valid_anywhere text classes others command.Cs before h = refl
-valid_anywhere text classes others (command.Strategy set) before h = refl
-valid_anywhere text classes others command.Exit before h = refl
+valid_anywhere : (text m : ℕ) (classes others : List Class) (c : Command) → precedes_classes c ≡ true → command_is_sound classes text m c ≡ true
+    → command_is_sound others text m c ≡ true
+valid_anywhere text m classes others (command.Make class puts) before h = absurd (true≢false (sym before))
+valid_anywhere text m classes others (command.Run count) before h = absurd (true≢false (sym before))
+valid_anywhere text m classes others (command.Ppwm pattern) before h = absurd (true≢false (sym before))
+valid_anywhere text m classes others (command.Add r) before h = absurd (true≢false (sym before))
+valid_anywhere text m classes others (command.Remove tags) before h = h
+valid_anywhere text m classes others (command.Wm tags) before h = h
+valid_anywhere text m classes others (command.Pm names) before h = h
+valid_anywhere text m classes others (command.Watch None) before h = h
+valid_anywhere text m classes others (command.Watch (Some n)) before h = h
+valid_anywhere text m classes others (command.Pbreak names) before h = h
+valid_anywhere text m classes others (command.Excise names) before h = h
+valid_anywhere text m classes others (command.Back count) before h = h
+valid_anywhere text m classes others (command.Matches names) before h = h
+valid_anywhere text m classes others command.RemoveAll before h = refl
+valid_anywhere text m classes others command.Cs before h = refl
+valid_anywhere text m classes others (command.Strategy set) before h = refl
+valid_anywhere text m classes others command.Exit before h = refl
 
-commands_valid_anywhere : (text : ℕ) (classes others : List Class) (commands : List Command) → list_all precedes_classes commands ≡ true
-    → list_all (command_is_sound classes text) commands ≡ true → list_all (command_is_sound others text) commands ≡ true
-commands_valid_anywhere text classes others [] before h = refl
-commands_valid_anywhere text classes others (c ∷ cs) before h =
+commands_valid_anywhere : (text m : ℕ) (classes others : List Class) (commands : List Command) → list_all precedes_classes commands ≡ true
+    → list_all (command_is_sound classes text m) commands ≡ true → list_all (command_is_sound others text m) commands ≡ true
+commands_valid_anywhere text m classes others [] before h = refl
+commands_valid_anywhere text m classes others (c ∷ cs) before h =
     let first = and_parts (precedes_classes c) (list_all precedes_classes cs) before in
-    let valid = and_parts (command_is_sound classes text c) (list_all (command_is_sound classes text) cs) h in
-    and_from _ _ (valid_anywhere text classes others c first.0 valid.0) (commands_valid_anywhere text classes others cs first.1 valid.1)
+    let valid = and_parts (command_is_sound classes text m c) (list_all (command_is_sound classes text m) cs) h in
+    and_from _ _ (valid_anywhere text m classes others c first.0 valid.0) (commands_valid_anywhere text m classes others cs first.1 valid.1)
 
-pub class_added : (text : ℕ) (classes : List Class) (rules : List Rule) (commands : List Command) (vectors : List Sym) (name : Sym) (attrs : List Sym) → IsDeclaring text classes rules commands → IsClass classes name attrs
-    → IsProgram text (classes ++ record { name = name; attrs = arranged vectors attrs; vector = has_vector vectors attrs } ∷ []) rules commands
-class_added text classes rules commands vectors name attrs d c =
+pub class_added : (text : ℕ) (classes : List Class) (rules templates : List Rule) (commands : List Command) (vectors : List Sym) (name : Sym) (attrs : List Sym) → IsDeclaring text classes rules templates commands → IsClass classes name attrs
+    → IsProgram text (classes ++ record { name = name; attrs = arranged vectors attrs; vector = has_vector vectors attrs } ∷ []) rules templates commands false
+class_added text classes rules templates commands vectors name attrs d c =
     let added : Class = record { name = name; attrs = arranged vectors attrs; vector = has_vector vectors attrs } in
     record {
       classes_valid = all_push class_is_valid classes added d.program.classes_valid
           (class_arranged vectors attrs name (has_vector vectors attrs) c.few c.distinct (any_some (λ a. is_one_of a vectors) attrs));
       rules_valid = all_none _ rules d.no_rules;
-      commands_valid = commands_valid_anywhere text classes (classes ++ added ∷ []) commands d.commands_precede d.program.commands_valid;
+      templates_valid = all_none _ templates (d.program.unused refl d.no_rules d.commands_precede);
+      commands_valid = commands_valid_anywhere text (length templates) classes (classes ++ added ∷ []) commands d.commands_precede d.program.commands_valid;
+      unused = d.program.unused;
       class_names = named_apart (λ c. c.name.0) classes added d.program.class_names c.is_new;
       rule_names = d.program.rule_names;
       late = d.program.late;
@@ -124,13 +127,15 @@ vectors_names name (c ∷ cs) =
     let here = cond_both (is_one_of name c.attrs) _ _ (λ (d : Class). d.name.0 ≡ c.name.0) (λ _. refl) (λ _. refl) in
     ap (λ (k : ℕ). k ∷ map (λ c. c.name.0) (map (with_vector_last name) cs)) here ∙ ap (λ (ks : List ℕ). c.name.0 ∷ ks) (vectors_names name cs)
 
-pub vector_added : (text : ℕ) (classes : List Class) (rules : List Rule) (commands : List Command) (name : Sym) → IsDeclaring text classes rules commands → IsDeclaring text (map (with_vector_last name) classes) rules commands
-vector_added text classes rules commands name d =
+pub vector_added : (text : ℕ) (classes : List Class) (rules templates : List Rule) (commands : List Command) (name : Sym) → IsDeclaring text classes rules templates commands → IsDeclaring text (map (with_vector_last name) classes) rules templates commands
+vector_added text classes rules templates commands name d =
     record {
       program = record {
         classes_valid = vectors_valid name classes d.program.classes_valid;
         rules_valid = all_none _ rules d.no_rules;
-        commands_valid = commands_valid_anywhere text classes (map (with_vector_last name) classes) commands d.commands_precede d.program.commands_valid;
+        templates_valid = all_none _ templates (d.program.unused refl d.no_rules d.commands_precede);
+        commands_valid = commands_valid_anywhere text (length templates) classes (map (with_vector_last name) classes) commands d.commands_precede d.program.commands_valid;
+        unused = d.program.unused;
         class_names = ap are_distinct (vectors_names name classes) ∙ d.program.class_names;
         rule_names = d.program.rule_names;
         late = d.program.late;
@@ -186,6 +191,42 @@ all_within_itself (x ∷ xs) =
     and_from _ _ (or_left _ _ (eq-eqb x x refl))
     (all_weaker (λ n. is_in n xs) (λ n. is_in n (x ∷ xs)) xs (λ n e. or_right _ _ e) (all_within_itself xs))
 
+-- ---- templates
+
+-- what builds from some templates builds from more
+pub builds_more : (m n : ℕ) → m ≤ n → (a : Action) → builds_from m a ≡ true → builds_from n a ≡ true
+builds_more m n le (action.Build template holes) h = let lt : template < m = ltb-true template m h in lt-ltb template n (omega (arith, lt, le))
+builds_more m n le _ h = refl
+
+rule_more : (classes : List Class) (text m n : ℕ) → m ≤ n → (r : Rule) → rule_is_sound classes text m r ≡ true → rule_is_sound classes text n r ≡ true
+rule_more classes text m n le r h =
+    let parts = and_parts (rule_is_valid classes text r) (rule_builds_from m r) h in
+    and_from _ _ parts.0 (all_weaker (builds_from m) (builds_from n) r.actions (builds_more m n le) parts.1)
+
+command_builds_more : (m n : ℕ) → m ≤ n → (c : Command) → command_builds_from m c ≡ true → command_builds_from n c ≡ true
+command_builds_more m n le (command.Add r) h = all_weaker (builds_from m) (builds_from n) r.actions (builds_more m n le) h
+command_builds_more m n le _ h = refl
+
+command_more : (classes : List Class) (text m n : ℕ) → m ≤ n → (c : Command) → command_is_sound classes text m c ≡ true → command_is_sound classes text n c ≡ true
+command_more classes text m n le c h =
+    let parts = and_parts (command_is_valid classes text c) (command_builds_from m c) h in and_from _ _ parts.0 (command_builds_more m n le c parts.1)
+
+build_from_none : (a : Action) → builds_from 0 a ≡ true → is_build a ≡ false
+build_from_none (action.Build template holes) h = absurd (omega (arith, ltb-true template 0 h))
+build_from_none _ h = refl
+
+-- what builds from none builds nothing
+builds_none : (xs : List Action) → list_all (builds_from 0) xs ≡ true → not (list_any is_build xs) ≡ true
+builds_none [] h = refl
+builds_none (a ∷ xs) h =
+    let parts = and_parts (builds_from 0 a) (list_all (builds_from 0) xs) h in
+    ap (λ (b : Bool). not (b || list_any is_build xs)) (build_from_none a parts.0) ∙ builds_none xs parts.1
+
+all_last : {X : Type 0} (p : X → Bool) (xs : List X) (x : X) → list_all p (xs ++ x ∷ []) ≡ true → (list_all p xs ≡ true) × (p x ≡ true)
+all_last p xs x h =
+    let parts = and_parts (list_all p xs) (list_all p (x ∷ [])) (sym (list_all-append p xs (x ∷ [])) ∙ h) in
+    (parts.0, (and_parts (p x) true parts.1).0)
+
 -- ---- left sides
 
 -- the variables with one more, which is bound here
@@ -196,13 +237,110 @@ with_one v name = record v { values = v.values ++ record { name = name; number =
 abbrev pub behind_condition : Variables → Variables
 behind_condition v = record v { values = cond v.negated (take v.around v.values) v.values; negated = false }
 
-module _ (text : ℕ) (classes : List Class) (rules : List Rule) (commands : List Command) (name : Sym) where
-  pub head_begun : IsProgram text classes rules commands → IsNew name rules commands → IsHead text classes rules commands name (record { values = []; given = 0; negated = false; around = 0; elements = []; grouped = false; members = [] }) [] []
-  head_begun p e =
+module _ (text : ℕ) (classes : List Class) (rules templates : List Rule) (commands : List Command) (name : Sym) where
+  -- while a production is read, there may be templates that no production has yet
+  producing : IsProgram text classes rules templates commands false → IsProgram text classes rules templates commands true
+  producing p =
+      record {
+        classes_valid = p.classes_valid;
+        rules_valid = p.rules_valid;
+        templates_valid = p.templates_valid;
+        commands_valid = p.commands_valid;
+        unused = λ e. absurd (true≢false e);
+        class_names = p.class_names;
+        rule_names = p.rule_names;
+        late = p.late;
+      }
+
+  head_of : (o : Option Outer) → IsProgram text classes rules templates commands true → Stands classes rules templates commands name o []
+      → IsHead text classes rules templates commands name (record { values = []; given = 0; negated = false; around = 0; elements = []; grouped = false; members = []; outer = o; holes = [] }) [] []
+  head_of o p e =
       record { program = p; is_new = e; few = omega arith; valid = refl; within = refl; alone = λ _. refl; first = λ some. absurd (omega arith); bound = refl; below = refl; room = λ n. omega arith; outside = λ n. refl; counted = refl; elements = refl }
 
-  pub test_kept : (v : Variables) (conditions : List Part) (tests : List Test) (f : ℕ) (p : Pred) (o : Operand) → IsHead text classes rules commands name v conditions tests
-      → IsHead text classes rules commands name v conditions (tests ++ record { field = f; pred = p; operand = o; binds = false } ∷ [])
+  pub head_begun : IsProgram text classes rules templates commands false → IsNew name rules commands
+      → IsHead text classes rules templates commands name (record { values = []; given = 0; negated = false; around = 0; elements = []; grouped = false; members = []; outer = None; holes = [] }) [] []
+  head_begun p e = head_of None (producing p) e
+
+  -- a production that another one builds begins
+  pub built_begun : (o : Outer) → IsProgram text classes rules templates commands true → IsOuter classes rules templates commands o []
+      → IsHead text classes rules templates commands name (record { values = []; given = 0; negated = false; around = 0; elements = []; grouped = false; members = []; outer = Some o; holes = [] }) [] []
+  built_begun o p e = head_of (Some o) p e
+
+  renamed : (other : Sym) (o : Option Outer) (hs : List Hole) → is_some o ≡ true → Stands classes rules templates commands name o hs → Stands classes rules templates commands other o hs
+  renamed other None hs e h = absurd (true≢false (sym e))
+  renamed other (Some o) hs e h = h
+
+  -- one that is built may have any name
+  pub head_renamed : (other : Sym) (v : Variables) (conditions : List Part) (tests : List Test) → is_some v.outer ≡ true → IsHead text classes rules templates commands name v conditions tests → IsHead text classes rules templates commands other v conditions tests
+  head_renamed other v conditions tests inside h =
+      record {
+        program = h.program;
+        is_new = renamed other v.outer v.holes inside h.is_new;
+        few = h.few;
+        valid = h.valid;
+        within = h.within;
+        alone = h.alone;
+        first = h.first;
+        bound = h.bound;
+        below = h.below;
+        room = h.room;
+        outside = h.outside;
+        counted = h.counted;
+        elements = h.elements;
+      }
+
+  -- a hole more, for a variable of the production around
+  hole_stands : (o : Option Outer) (hs : List Hole) (variable : Sym) (m n : ℕ) → Stands classes rules templates commands name o hs → number_of variable (values_around o) ≡ Some n
+      → Stands classes rules templates commands name o (hs ++ record { number = m; variable = n } ∷ [])
+  hole_stands None hs variable m n h e = absurd (cc)
+  hole_stands (Some o) hs variable m n h e =
+      record {
+        is_new = h.is_new;
+        few = h.few;
+        left = h.left;
+        some = h.some;
+        valid = h.valid;
+        builds = h.builds;
+        knows = h.knows;
+        bound = all_push (λ x. is_in x.variable (known o.conditions o.actions).bound) hs (record { number = m; variable = n }) h.bound
+            (all_in (λ x. is_in x (known o.conditions o.actions).bound) (numbers o.values) n h.knows.bound (number_in variable o.values n e));
+      }
+
+  pub head_holed : (v : Variables) (conditions : List Part) (tests : List Test) (variable : Sym) (m n : ℕ) → IsHead text classes rules templates commands name v conditions tests → number_of variable (values_around v.outer) ≡ Some n
+      → IsHead text classes rules templates commands name (record v { holes = v.holes ++ record { number = m; variable = n } ∷ [] }) conditions tests
+  head_holed v conditions tests variable m n h e =
+      record {
+        program = h.program;
+        is_new = hole_stands v.outer v.holes variable m n h.is_new e;
+        few = h.few;
+        valid = h.valid;
+        within = h.within;
+        alone = h.alone;
+        first = h.first;
+        bound = h.bound;
+        below = h.below;
+        room = h.room;
+        outside = h.outside;
+        counted = h.counted;
+        elements = h.elements;
+      }
+
+  pub body_holed : (v : Variables) (conditions : List Part) (r : Side) (xs : List Action) (variable : Sym) (m n : ℕ) → IsBody text classes rules templates commands name v conditions r xs → number_of variable (values_around v.outer) ≡ Some n
+      → IsBody text classes rules templates commands name (record v { holes = v.holes ++ record { number = m; variable = n } ∷ [] }) conditions r xs
+  body_holed v conditions r xs variable m n h e =
+      record {
+        program = h.program;
+        is_new = hole_stands v.outer v.holes variable m n h.is_new e;
+        few = h.few;
+        left = h.left;
+        some = h.some;
+        valid = h.valid;
+        builds = h.builds;
+        knows = record { bound = h.knows.bound; given = h.knows.given; counted = h.knows.counted; cells = h.knows.cells; elements = h.knows.elements; made = h.knows.made };
+      }
+
+  pub test_kept : (v : Variables) (conditions : List Part) (tests : List Test) (f : ℕ) (p : Pred) (o : Operand) → IsHead text classes rules templates commands name v conditions tests
+      → IsHead text classes rules templates commands name v conditions (tests ++ record { field = f; pred = p; operand = o; binds = false } ∷ [])
   test_kept v conditions tests f p o h =
       let t : Test = record { field = f; pred = p; operand = o; binds = false } in
       let same = sight_push (inside v conditions) tests t in
@@ -222,8 +360,8 @@ module _ (text : ℕ) (classes : List Class) (rules : List Rule) (commands : Lis
         elements = h.elements;
       }
 
-  pub test_bound : (v : Variables) (conditions : List Part) (tests : List Test) (f : ℕ) (variable : Sym) → IsHead text classes rules commands name v conditions tests
-      → IsHead text classes rules commands name (with_one v variable) conditions (tests ++ record { field = f; pred = pred.Eq; operand = operand.Variable v.given; binds = true } ∷ [])
+  pub test_bound : (v : Variables) (conditions : List Part) (tests : List Test) (f : ℕ) (variable : Sym) → IsHead text classes rules templates commands name v conditions tests
+      → IsHead text classes rules templates commands name (with_one v variable) conditions (tests ++ record { field = f; pred = pred.Eq; operand = operand.Variable v.given; binds = true } ∷ [])
   test_bound v conditions tests f variable h =
       let t : Test = record { field = f; pred = pred.Eq; operand = operand.Variable v.given; binds = true } in
       let same = sight_push (inside v conditions) tests t in
@@ -251,7 +389,7 @@ module _ (text : ℕ) (classes : List Class) (rules : List Rule) (commands : Lis
       tests_push c (inside v conditions) tests (record { field = f; pred = p; operand = o; binds = binds }) fields (and_from _ _ field valid)
 
   abbrev HeadOf : Variables → List Part → List Test → Type 0
-  HeadOf v conditions tests = IsHead text classes rules commands name v conditions tests
+  HeadOf v conditions tests = IsHead text classes rules templates commands name v conditions tests
 
   -- where no group is read
   abbrev plainly : Variables → Variables
@@ -399,8 +537,8 @@ module _ (text : ℕ) (classes : List Class) (rules : List Rule) (commands : Lis
       (plain_negated v conditions (subst (λ (u : Variables). HeadOf u conditions []) same h))
 
   -- an element variable more, which names the cell of the last condition
-  pub element_bound : (v : Variables) (conditions : List Part) (tests : List Test) (variable : Sym) → IsHead text classes rules commands name v conditions tests → 0 < length conditions
-      → IsHead text classes rules commands name (record v { elements = v.elements ++ record { name = variable; number = length (cells_of conditions) - 1 } ∷ [] }) conditions tests
+  pub element_bound : (v : Variables) (conditions : List Part) (tests : List Test) (variable : Sym) → IsHead text classes rules templates commands name v conditions tests → 0 < length conditions
+      → IsHead text classes rules templates commands name (record v { elements = v.elements ++ record { name = variable; number = length (cells_of conditions) - 1 } ∷ [] }) conditions tests
   element_bound v conditions tests variable h some =
       let one : Named = record { name = variable; number = length (cells_of conditions) - 1 } in
       let cells = some_cell conditions (h.first some) in
@@ -424,8 +562,8 @@ module _ (text : ℕ) (classes : List Class) (rules : List Rule) (commands : Lis
   -- ---- right sides
 
   -- a left side ends, where no condition is negated any more
-  pub body_begun : (v : Variables) (conditions : List Part) → IsHead text classes rules commands name v conditions [] → 0 < length conditions → v.grouped ≡ false
-      → IsBody text classes rules commands name (record v { negated = false; around = 0; grouped = false; members = [] }) conditions (record { made = None; further = [] }) []
+  pub body_begun : (v : Variables) (conditions : List Part) → IsHead text classes rules templates commands name v conditions [] → 0 < length conditions → v.grouped ≡ false
+      → IsBody text classes rules templates commands name (record v { negated = false; around = 0; grouped = false; members = [] }) conditions (record { made = None; further = [] }) []
   body_begun v conditions first some e =
       let h = subst (λ (u : Variables). HeadOf u conditions []) (plainly_is v e (first.alone e)) first in
       record {
@@ -446,9 +584,10 @@ module _ (text : ℕ) (classes : List Class) (rules : List Rule) (commands : Lis
         };
       }
 
-  pub action_added : (v v' : Variables) (conditions : List Part) (r r' : Side) (xs : List Action) (a : Action) → IsBody text classes rules commands name v conditions r xs → action_is_valid classes (known conditions xs) a ≡ true → builds_from 0 a ≡ true
-      → Knows (known_after (known conditions xs) a) v' conditions r' → IsBody text classes rules commands name v' conditions r' (xs ++ a ∷ [])
-  action_added v v' conditions r r' xs a h valid builds knows =
+  pub action_added : (v : Variables) (values elements : List Named) (given : ℕ) (conditions : List Part) (r r' : Side) (xs : List Action) (a : Action) → IsBody text classes rules templates commands name v conditions r xs
+      → action_is_valid classes (known conditions xs) a ≡ true → builds_from 0 a ≡ true → Knows (known_after (known conditions xs) a) (record v { values = values; elements = elements; given = given }) conditions r'
+      → IsBody text classes rules templates commands name (record v { values = values; elements = elements; given = given }) conditions r' (xs ++ a ∷ [])
+  action_added v values elements given conditions r r' xs a h valid builds knows =
       record {
         program = h.program;
         is_new = h.is_new;
@@ -456,42 +595,106 @@ module _ (text : ℕ) (classes : List Class) (rules : List Rule) (commands : Lis
         left = h.left;
         some = h.some;
         valid = actions_push classes (known_of conditions) xs a h.valid valid;
-        builds = all_push (builds_from 0) xs a h.builds builds;
-        knows = subst (λ (k : Known). Knows k v' conditions r') (sym (known_push (known_of conditions) xs a)) knows;
+        builds = all_push (builds_from (allowed v.outer (length templates))) xs a h.builds (builds_more 0 _ (omega arith) a builds);
+        knows = subst (λ (k : Known). Knows k (record v { values = values; elements = elements; given = given }) conditions r') (sym (known_push (known_of conditions) xs a)) knows;
       }
 
   abbrev whole : Variables → List Part → Side → List Action → ℕ → ℕ → Rule
   whole v conditions r xs first past =
       record { name = name; conditions = conditions; actions = xs; specificity = specificity conditions; variables = v.given; cells = length (cells_of conditions ++ r.further); first = first; past = past }
 
-  rule_sound : (v : Variables) (conditions : List Part) (r : Side) (xs : List Action) (first past : ℕ) → IsBody text classes rules commands name v conditions r xs → fits xs ≡ true → first ≤ past → past ≤ text
-      → rule_is_sound classes text (whole v conditions r xs first past) ≡ true
-  rule_sound v conditions r xs first past h short ordered within =
-      and_from _ _ (and_from _ _ (and_from _ _ (and_from _ _ (and_from _ _ (and_from _ _ (and_from _ _ (and_from _ _ (and_from _ _ (and_from _ _ h.some (le-leb _ _ h.few)) h.left) short) h.valid) (eq-eqb (specificity conditions) (specificity conditions) refl)) h.knows.given) (eq-eqb _ _ (ap length (sym h.knows.cells)))) (le-leb _ _ ordered)) (le-leb _ _ within)) h.builds
+  rule_valid : (v : Variables) (conditions : List Part) (r : Side) (xs : List Action) (first past : ℕ) → IsBody text classes rules templates commands name v conditions r xs → fits xs ≡ true → first ≤ past → past ≤ text
+      → rule_is_valid classes text (whole v conditions r xs first past) ≡ true
+  rule_valid v conditions r xs first past h short ordered within =
+      and_from _ _ (and_from _ _ (and_from _ _ (and_from _ _ (and_from _ _ (and_from _ _ (and_from _ _ (and_from _ _ (and_from _ _ h.some (le-leb _ _ h.few)) h.left) short) h.valid) (eq-eqb (specificity conditions) (specificity conditions) refl)) h.knows.given) (eq-eqb _ _ (ap length (sym h.knows.cells)))) (le-leb _ _ ordered)) (le-leb _ _ within)
+
+  title_new : (o : Option Outer) (hs : List Hole) → o ≡ None → Stands classes rules templates commands name o hs → IsNew name rules commands
+  title_new None hs e h = h
+  title_new (Some o) hs e h = absurd (cc)
+
+  builds_alone : (o : Option Outer) (n : ℕ) (xs : List Action) → o ≡ None → list_all (builds_from (allowed o n)) xs ≡ true → list_all (builds_from n) xs ≡ true
+  builds_alone None n xs e h = h
+  builds_alone (Some o) n xs e h = absurd (cc)
 
   -- A production ends: one of the beginning, or one that is added.
-  pub rule_added : (v : Variables) (conditions : List Part) (r : Side) (xs : List Action) (first past : ℕ) → IsBody text classes rules commands name v conditions r xs → fits xs ≡ true → first ≤ past → past ≤ text
+  pub rule_added : (v : Variables) (conditions : List Part) (r : Side) (xs : List Action) (first past : ℕ) → v.outer ≡ None → IsBody text classes rules templates commands name v conditions r xs → fits xs ≡ true → first ≤ past → past ≤ text
       → (b : Bool) → list_all precedes_rules commands ≡ b
-      → IsProgram text classes (rules_with b rules (whole v conditions r xs first past)) (commands_with b commands (whole v conditions r xs first past))
-  rule_added v conditions r xs first past h short ordered within true e =
+      → IsProgram text classes (rules_with b rules (whole v conditions r xs first past)) templates (commands_with b commands (whole v conditions r xs first past)) false
+  rule_added v conditions r xs first past alone h short ordered within true e =
       let one = whole v conditions r xs first past in
+      let sound = and_from _ _ (rule_valid v conditions r xs first past h short ordered within) (builds_alone v.outer (length templates) xs alone h.builds) in
       record {
         classes_valid = h.program.classes_valid;
-        rules_valid = all_push (rule_is_sound classes text) rules one h.program.rules_valid (rule_sound v conditions r xs first past h short ordered within);
+        rules_valid = all_push (rule_is_sound classes text (length templates)) rules one h.program.rules_valid sound;
+        templates_valid = h.program.templates_valid;
         commands_valid = h.program.commands_valid;
+        unused = λ _ none _. absurd (omega (arith, none, length-append rules (one ∷ [])));
         class_names = h.program.class_names;
-        rule_names = titles_front rules commands one e h.program.rule_names h.is_new;
+        rule_names = titles_front rules commands one e h.program.rule_names (title_new v.outer v.holes alone h.is_new);
         late = h.program.late;
       }
-  rule_added v conditions r xs first past h short ordered within false e =
+  rule_added v conditions r xs first past alone h short ordered within false e =
       let one = whole v conditions r xs first past in
+      let sound = and_from _ _ (rule_valid v conditions r xs first past h short ordered within) (builds_alone v.outer (length templates) xs alone h.builds) in
       record {
         classes_valid = h.program.classes_valid;
         rules_valid = h.program.rules_valid;
-        commands_valid = all_push (command_is_sound classes text) commands (command.Add one) h.program.commands_valid (rule_sound v conditions r xs first past h short ordered within);
+        templates_valid = h.program.templates_valid;
+        commands_valid = all_push (command_is_sound classes text (length templates)) commands (command.Add one) h.program.commands_valid sound;
+        unused = λ _ _ before. absurd (true≢false (sym (all_last precedes_classes commands (command.Add one) before).1));
         class_names = h.program.class_names;
-        rule_names = titles_behind rules commands one h.program.rule_names h.is_new;
+        rule_names = titles_behind rules commands one h.program.rule_names (title_new v.outer v.holes alone h.is_new);
         late = late_rule commands one h.program.late e;
+      }
+
+  -- one template more
+  templates_more : (r : Rule) → IsProgram text classes rules templates commands true → template_is_valid classes text r ≡ true → IsProgram text classes rules (templates ++ r ∷ []) commands true
+  templates_more r h valid =
+      let n = length templates in
+      let m = length (templates ++ r ∷ []) in
+      let le : n ≤ m = omega (arith, length-append templates (r ∷ [])) in
+      record {
+        classes_valid = h.classes_valid;
+        rules_valid = all_weaker (rule_is_sound classes text n) (rule_is_sound classes text m) rules (rule_more classes text n m le) h.rules_valid;
+        templates_valid = all_push (template_is_valid classes text) templates r h.templates_valid valid;
+        commands_valid = all_weaker (command_is_sound classes text n) (command_is_sound classes text m) commands (command_more classes text n m le) h.commands_valid;
+        unused = λ e. absurd (true≢false e);
+        class_names = h.class_names;
+        rule_names = h.rule_names;
+        late = h.late;
+      }
+
+  no_builds : (o : Option Outer) (p : Outer) (n : ℕ) (xs : List Action) → o ≡ Some p → list_all (builds_from (allowed o n)) xs ≡ true → not (list_any is_build xs) ≡ true
+  no_builds None p n xs e h = absurd (cc)
+  no_builds (Some o) p n xs e h = builds_none xs h
+
+  outer_stands : (o : Option Outer) (p : Outer) (hs : List Hole) → o ≡ Some p → Stands classes rules templates commands name o hs → IsOuter classes rules templates commands p hs
+  outer_stands None p hs e h = absurd (cc)
+  outer_stands (Some o) p hs e h = let same : o ≡ p = cc in subst (λ (x : Outer). IsOuter classes rules templates commands x hs) same h
+
+  -- A production ends that another one builds.
+  pub template_added : (v : Variables) (o : Outer) (conditions : List Part) (r : Side) (xs : List Action) (first past : ℕ) → v.outer ≡ Some o → IsBody text classes rules templates commands name v conditions r xs → fits xs ≡ true → first ≤ past → past ≤ text
+      → IsBody text classes rules (templates ++ whole v conditions r xs first past ∷ []) commands o.name (record v { values = o.values; given = o.variables; elements = o.elements; outer = None; holes = [] }) o.conditions (side_in o)
+      (o.actions ++ action.Build (length templates) v.holes ∷ [])
+  template_added v o conditions r xs first past inside h short ordered within =
+      let one = whole v conditions r xs first past in
+      let build : Action = action.Build (length templates) v.holes in
+      let around = outer_stands v.outer o v.holes inside h.is_new in
+      let longer = length-append templates (one ∷ []) in
+      let k = known o.conditions o.actions in
+      let v' : Variables = record v { values = o.values; given = o.variables; elements = o.elements; outer = None; holes = [] } in
+      record {
+        program = templates_more one h.program (and_from _ _ (rule_valid v conditions r xs first past h short ordered within) (no_builds v.outer o (length templates) xs inside h.builds));
+        is_new = around.is_new;
+        few = around.few;
+        left = around.left;
+        some = around.some;
+        valid = actions_push classes (known_of o.conditions) o.actions build around.valid around.bound;
+        builds = all_push (builds_from (length (templates ++ one ∷ []))) o.actions build
+            (all_weaker (builds_from (length templates)) (builds_from (length (templates ++ one ∷ []))) o.actions (builds_more (length templates) (length (templates ++ one ∷ [])) (omega (arith, longer))) around.builds)
+            (lt-ltb _ _ (omega (arith, longer)));
+        knows = subst (λ (x : Known). Knows x v' o.conditions (side_in o)) (sym (known_push (known_of o.conditions) o.actions build))
+            (record { bound = around.knows.bound; given = around.knows.given; counted = around.knows.counted; cells = around.knows.cells; elements = around.knows.elements; made = around.knows.made });
       }
 
 -- ---- right sides
@@ -585,13 +788,15 @@ several_valid classes k c f terms vector short valid =
 
 -- ---- commands
 
-pub command_added : (text : ℕ) (classes : List Class) (rules : List Rule) (commands : List Command) (c : Command) → IsProgram text classes rules commands → other_is_sound classes text c ≡ true → IsProgram text classes rules (commands ++ c ∷ [])
-command_added text classes rules commands c h valid =
+pub command_added : (text : ℕ) (classes : List Class) (rules templates : List Rule) (commands : List Command) (c : Command) → IsProgram text classes rules templates commands false → other_is_sound classes text c ≡ true → IsProgram text classes rules templates (commands ++ c ∷ []) false
+command_added text classes rules templates commands c h valid =
     let parts = and_parts (command_is_valid classes text c) (not (is_add c)) valid in
     record {
       classes_valid = h.classes_valid;
       rules_valid = h.rules_valid;
-      commands_valid = all_push (command_is_sound classes text) commands c h.commands_valid (and_from _ _ parts.0 (other_builds c parts.1));
+      templates_valid = h.templates_valid;
+      commands_valid = all_push (command_is_sound classes text (length templates)) commands c h.commands_valid (and_from _ _ parts.0 (other_builds (length templates) c parts.1));
+      unused = λ e none before. h.unused e none (all_last precedes_classes commands c before).0;
       class_names = h.class_names;
       rule_names = titles_other rules commands c h.rule_names parts.1;
       late = late_other commands c h.late parts.1;

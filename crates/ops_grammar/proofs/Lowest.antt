@@ -1,5 +1,9 @@
 -- The fault with which a word is refused has the lowest number of those that have their reason there.
-use Rattle.std.proofs.Common.{◌≡◌, ℕ, ◌+◌, ◌≤◌, Bool, true, false, ◌&&◌, ◌||◌, List, ◌∷◌, length, refl, sym, ap, subst, ◌∙◌, arith, inl, inr, Option, Some, None, nat_lt, true≢false}
+use Rattle.ops_base.specs.declared.values.Pred.{Pred}
+use Rattle.ops_grammar.specs.declared.words.Keyword.{Keyword}
+use Rattle.ops_grammar.specs.declared.words.Keyword.TheVariants as keyword
+use Rattle.ops_base.specs.declared.values.Pred.TheVariants as pred
+use Rattle.std.proofs.Common.{◌≡◌, ℕ, ◌+◌, ◌≤◌, Bool, true, false, ◌&&◌, ◌||◌, List, ◌∷◌, length, refl, sym, ap, subst, ◌∙◌, arith, inl, inr, Option, Some, None, nat_lt, true≢false, not, is_some}
 use Rattle.std.proofs.lemmas.Bool.{cond_both, and_parts, not-true, cases_lt}
 use Rattle.ops_base.specs.declared.values.Sym.{Sym}
 use Rattle.ops_base.specs.declared.values.Value.{Value}
@@ -10,12 +14,12 @@ use Rattle.ops_base.specs.Valid.{most_fields}
 use Rattle.ops_tokens.specs.declared.token.TokenKind.{TokenKind}
 use Rattle.ops_tokens.specs.declared.token.TokenKind.TheVariants as kind
 use Rattle.ops_grammar.specs.declared.words.Word.{Word}
-use Rattle.ops_grammar.specs.Grammar.{InPattern, InPut, InFixed, ToConstants, Wanted, Form, ClassDeclared, Attributes, VectorName, VectorNames, RuleName, FirstPattern, Patterns, Braced, ElementName, ClassName, Attribute, Several, Shown, Tested, ValueFor, ExpressionUnit, Bracketed, SourceCell, SourceAttribute, Modified, BoundValue, CellName, Cell, Cells, Items, State, Step, Next, Refuses, is_left, is_right, is_caret, is_name, is_variable, is_literal, value_of, is_one_of, number_of, is_second, attributes, bound_at, constant_at, is_of_action, value_for, within, several, step, Members}
+use Rattle.ops_grammar.specs.Grammar.{InPattern, InPut, InFixed, ToConstants, Wanted, Form, ClassDeclared, Attributes, VectorName, VectorNames, RuleName, FirstPattern, Patterns, Braced, ElementName, ClassName, Attribute, Several, Shown, Tested, ValueFor, ExpressionUnit, Bracketed, SourceCell, SourceAttribute, Modified, BoundValue, CellName, Cell, Cells, Items, State, Step, Next, Refuses, is_left, is_right, is_caret, is_name, is_variable, is_literal, value_of, is_one_of, number_of, is_second, attributes, bound_at, constant_at, is_of_action, value_for, within, several, step, Members, Use, Place, Tests, Choice, Atom, with_hole, with_constant, constant_by, filled, values_around, place, tested, predicated, variable_tested, constant_tested, constant_of, pred_of, opens_choice, is_left_brace, ToTest}
 use Rattle.ops_grammar.specs.Derivation.{is_no_form}
-use Rattle.ops_grammar.specs.Reasons.{fault_number, wants_form, wants_class, wants_attribute, is_declared, gives_second, is_full, nests_deepest, wants_condition, wants_first, wants_bound, designates, wants_cell, is_bad_designator, Because}
+use Rattle.ops_grammar.specs.Reasons.{fault_number, wants_form, wants_class, wants_attribute, is_declared, gives_second, is_full, nests_deepest, wants_condition, wants_first, wants_bound, designates, wants_cell, is_bad_designator, Because, wants_constant, is_unfilled}
 use Rattle.ops_grammar.specs.Standing.{IsLowest}
 use Rattle.ops_grammar.proofs.Arranged.{AreArranged}
-use Rattle.ops_grammar.proofs.Proper.{is_proper, literal_marks, mark_kind}
+use Rattle.ops_grammar.proofs.Proper.{is_proper, literal_marks, mark_kind, is_hole, is_mark, may_have, hole_kind, pred_marks, opening_marks}
 use Rattle.ops_grammar.proofs.Follows.{variable_not_left}
 use Rattle.ops_grammar.proofs.Reasons.{refused-because}
 
@@ -35,6 +39,11 @@ least_at (VectorNames ∷ ws) = 11
 least_at (Form ∷ ws) = 12
 least_at (FirstPattern ∷ ws) = 14
 least_at (Tested f p ∷ ws) = 15
+least_at (Place f ∷ ws) = 15
+least_at (Tests f ∷ ws) = 15
+least_at (Choice f ∷ ws) = 15
+least_at (Atom t ∷ ws) = 15
+least_at (Several InPattern f ∷ ws) = 15
 least_at (ValueFor t ∷ ws) = 15
 least_at (Several InPut f ∷ ws) = 15
 least_at (Several InFixed f ∷ ws) = 15
@@ -52,10 +61,12 @@ least_at (SourceCell ∷ ws) = 16
 least_at ws = 18
 
 -- The reasons here exclude each other. Where they don't, an attribute may be declared twice, be a second vector
--- attribute and pass the limit, and a value of a command may be an unbound variable and pass the limit.
+-- attribute and pass the limit, and a place of a pattern or a value of a command may be an unbound variable and pass the
+-- limit.
 abbrev is_single : List Wanted → Bool
 is_single (Attributes ∷ ws) = false
 is_single (Several InFixed f ∷ ws) = false
+is_single (Several InPattern f ∷ ws) = false
 is_single ws = true
 
 class_least : (ws : List Wanted) → wants_class ws ≡ true → least_at ws ≡ 8
@@ -134,9 +145,29 @@ full_least _ s e = absurd (true≢false (sym e))
 
 full_single : (ws : List Wanted) (s : State) → is_single ws ≡ true → is_full ws s ≡ true → least_at ws ≡ 18
 full_single (Attributes ∷ ws) s single e = absurd (true≢false (sym single))
-full_single (Several InPattern f ∷ ws) s single e = refl
+full_single (Several InPattern f ∷ ws) s single e = absurd (true≢false (sym single))
 full_single (Several InFixed f ∷ ws) s single e = absurd (true≢false (sym single))
 full_single _ s single e = absurd (true≢false (sym e))
+
+constant_least : (ws : List Wanted) → wants_constant ws ≡ true → least_at ws ≡ 15
+constant_least (Place f ∷ ws) e = refl
+constant_least (Tests f ∷ ws) e = refl
+constant_least (Tested f p ∷ ws) e = refl
+constant_least (Choice f ∷ ws) e = refl
+constant_least (Atom t ∷ ws) e = refl
+constant_least (ValueFor t ∷ ws) e = refl
+constant_least (Several InPattern f ∷ ws) e = refl
+constant_least (Several InPut f ∷ ws) e = refl
+constant_least (Several InFixed f ∷ ws) e = refl
+constant_least (BoundValue ∷ ws) e = refl
+constant_least (Items ∷ ws) e = refl
+constant_least _ e = absurd (true≢false (sym e))
+
+-- no bracket opens an expression where a constant may stand
+constant_shallow : (ws : List Wanted) → wants_constant ws ≡ true → nests_deepest ws ≡ false
+constant_shallow (ExpressionUnit d ∷ ws) e = absurd (true≢false (sym e))
+constant_shallow (Bracketed d ∷ ws) e = absurd (true≢false (sym e))
+constant_shallow _ e = refl
 
 deepest_least : (ws : List Wanted) → nests_deepest ws ≡ true → least_at ws ≡ 15
 deepest_least (ExpressionUnit d ∷ ws) e = refl
@@ -173,7 +204,8 @@ module _ (w : Word) (ws : List Wanted) (s : State) where
   reason_least fault.TwoVectors in_form r = second_least ws w.name s r.1
   reason_least fault.LateDeclaration in_form r = let at = form_least ws r.0 in omega (arith, at)
   reason_least fault.FirstNegated in_form r = let at = first_least ws r.1 in omega (arith, at)
-  reason_least fault.UnboundVariable in_form r = let at = bound_least ws r.0 in omega (arith, at)
+  reason_least fault.UnboundVariable in_form (inl r) = let at = bound_least ws r.0 in omega (arith, at)
+  reason_least fault.UnboundVariable in_form (inr r) = let at = constant_least ws r.0 in omega (arith, at)
   reason_least fault.BadDesignator in_form r = let at = designator_least ws w s r in omega (arith, at)
   reason_least fault.AmbiguousDesignator in_form r = let at = cell_least ws r.0 in omega (arith, at)
   reason_least (fault.LimitPassed limit.Fields) in_form r = full_least ws s r
@@ -209,7 +241,8 @@ module _ (w : Word) (ws : List Wanted) (s : State) where
 
   -- of a bracket past the limit, which is no variable
   nesting_lowest : is_left w.kind ≡ true → nests_deepest ws ≡ true → IsLowest (fault.LimitPassed limit.Nesting) w ws s
-  nesting_lowest left deepest fault.UnboundVariable in_form r = absurd (true≢false (sym left ∙ variable_not_left w.kind r.1))
+  nesting_lowest left deepest fault.UnboundVariable in_form (inl r) = absurd (true≢false (sym left ∙ variable_not_left w.kind r.1))
+  nesting_lowest left deepest fault.UnboundVariable in_form (inr r) = absurd (true≢false (sym deepest ∙ constant_shallow ws r.0))
   nesting_lowest left deepest fault.DeclaredTwice in_form r =
       let at = declared_least ws w.name s r.1 in let here = deepest_least ws deepest in absurd (omega (arith, at, here))
   nesting_lowest left deepest fault.TwoVectors in_form r =
@@ -239,7 +272,8 @@ module _ (w : Word) (ws : List Wanted) (s : State) where
   reason_lowest single fault.TwoVectors r = let at = second_single ws w.name s single r.1 in lowest_at fault.TwoVectors (omega (arith, at))
   reason_lowest single fault.LateDeclaration r = let at = form_least ws r.0 in lowest_at fault.LateDeclaration (omega (arith, at))
   reason_lowest single fault.FirstNegated r = let at = first_least ws r.1 in lowest_at fault.FirstNegated (omega (arith, at))
-  reason_lowest single fault.UnboundVariable r = let at = bound_least ws r.0 in lowest_at fault.UnboundVariable (omega (arith, at))
+  reason_lowest single fault.UnboundVariable (inl r) = let at = bound_least ws r.0 in lowest_at fault.UnboundVariable (omega (arith, at))
+  reason_lowest single fault.UnboundVariable (inr r) = let at = constant_least ws r.0 in lowest_at fault.UnboundVariable (omega (arith, at))
   reason_lowest single fault.BadDesignator r = let at = designator_least ws w s r in lowest_at fault.BadDesignator (omega (arith, at))
   reason_lowest single fault.AmbiguousDesignator r = ambiguous_lowest r.0 r.1
   reason_lowest single (fault.LimitPassed limit.Fields) r =
@@ -267,7 +301,8 @@ module _ (w : Word) (ws : List Wanted) (s : State) where
   attribute_full new alone fault.UnknownAttribute in_form r = absurd (true≢false (sym r.0))
   attribute_full new alone fault.LateDeclaration in_form r = absurd (true≢false (sym r.0))
   attribute_full new alone fault.FirstNegated in_form r = absurd (true≢false (sym r.1))
-  attribute_full new alone fault.UnboundVariable in_form r = absurd (true≢false (sym r.0))
+  attribute_full new alone fault.UnboundVariable in_form (inl r) = absurd (true≢false (sym r.0))
+  attribute_full new alone fault.UnboundVariable in_form (inr r) = absurd (true≢false (sym r.0))
   attribute_full new alone fault.BadDesignator in_form r = absurd (true≢false (sym r))
   attribute_full new alone fault.AmbiguousDesignator in_form r = absurd (true≢false (sym r.0))
   attribute_full new alone (fault.LimitPassed l) in_form r = omega arith
@@ -290,69 +325,159 @@ module _ (w : Word) (ws : List Wanted) (s : State) where
       (λ alone. cond_both (nat_lt (length s.attrs) most_fields) _ _ (HasLowest (Attributes ∷ ws) w s) (λ _. tt) (λ _. attribute_full new alone))))
       (λ _. low w (Attributes ∷ ws) s fault.BadForm (omega arith)))
 
--- ---- a value of the vector attribute of a command
+-- ---- a place of the vector attribute of a pattern, and a value of that of a command
 
 value_no_variable : (k : TokenKind) (name : Sym) (v : Value) → value_of k name ≡ Some v → is_variable k ≡ false
 value_no_variable kind.Variable name v e = absurd (cc)
 value_no_variable _ name v e = refl
 
-module _ (w : Word) (n : ℕ) (ws : List Wanted) (s : State) where
+constant_no_variable : (k : TokenKind) (name : Sym) (v : Value) → constant_of k name ≡ Some v → is_variable k ≡ false
+constant_no_variable kind.Variable name v e = absurd (cc)
+constant_no_variable _ name v e = refl
+
+-- what is no hole is no unbound one
+pub no_hole : (k : Keyword) (s : State) → is_hole k ≡ false → is_unfilled k s ≡ false
+no_hole (keyword.Hole variable at) s e = absurd (true≢false e)
+no_hole _ s e = refl
+
+mark_no_hole : (k : Keyword) → is_mark k ≡ true → is_hole k ≡ false
+mark_no_hole (keyword.Hole variable at) e = absurd (true≢false (sym e))
+mark_no_hole _ e = refl
+
+-- a word of another kind than those of names is none
+other_no_hole : (k : TokenKind) (w : Keyword) (is : TokenKind → Bool) → is kind.Quoted ≡ false → is k ≡ true → may_have k w ≡ true → is_hole w ≡ false
+other_no_hole k w is quoted e proper = by (is_hole w) refl
+  where
+    by : (b : Bool) → is_hole w ≡ b → b ≡ false
+    by false h = refl
+    by true h = absurd (true≢false (sym e ∙ ap is (hole_kind k w h proper) ∙ quoted))
+
+module _ (w : Word) (u : Use) (n : ℕ) (ws : List Wanted) (s : State) where
+  abbrev Here : List Wanted
+  Here = Several u n ∷ ws
+
+  -- of a word that is no unbound variable
+  full_lowest : (wants_bound Here ≡ true → is_variable w.kind ≡ false) → is_unfilled w.keyword s ≡ false → IsLowest (fault.LimitPassed limit.Fields) w Here s
+  full_lowest no_variable filled fault.UnboundVariable in_form (inl r) = absurd (true≢false (sym r.1 ∙ no_variable r.0))
+  full_lowest no_variable filled fault.UnboundVariable in_form (inr r) = absurd (true≢false (sym r.1 ∙ filled))
+  full_lowest no_variable filled fault.DeclaredTwice in_form r = absurd (true≢false (sym r.1))
+  full_lowest no_variable filled fault.TwoVectors in_form r = absurd (true≢false (sym r.1))
+  full_lowest no_variable filled fault.UnknownClass in_form r = absurd (true≢false (sym r.0))
+  full_lowest no_variable filled fault.UnknownAttribute in_form r = absurd (true≢false (sym r.0))
+  full_lowest no_variable filled fault.LateDeclaration in_form r = absurd (true≢false (sym r.0))
+  full_lowest no_variable filled fault.FirstNegated in_form r = absurd (true≢false (sym r.1))
+  full_lowest no_variable filled fault.BadDesignator in_form r = absurd (true≢false (sym r))
+  full_lowest no_variable filled fault.AmbiguousDesignator in_form r = absurd (true≢false (sym r.0))
+  full_lowest no_variable filled (fault.LimitPassed l) in_form r = omega arith
+  full_lowest no_variable filled fault.Stray in_form r = absurd (true≢false in_form)
+  full_lowest no_variable filled fault.UnknownCommand in_form r = absurd (true≢false in_form)
+  full_lowest no_variable filled fault.BadForm in_form r = absurd (true≢false in_form)
+  full_lowest no_variable filled _ in_form r = absurd r
+
+  -- what is taken is no unbound variable
+  abbrev IsOne : Step → Type 0
+  IsOne (Next ws' s') = (wants_bound Here ≡ true → is_variable w.kind ≡ false) × (is_unfilled w.keyword s ≡ false)
+  IsOne (Refuses f) = IsLowest f w Here s
+
+  within_lowest : (b : Bool) (x : Step) → IsOne x → HasLowest Here w s (within b x)
+  within_lowest true (Next ws' s') v = tt
+  within_lowest true (Refuses f) v = v
+  within_lowest false (Next ws' s') v = full_lowest v.0 v.1
+  within_lowest false (Refuses f) v = v
+
+  -- a constant, which may be a hole
+  constant_one : (next : State → Step) → is_variable w.kind ≡ false → 15 ≤ least_at Here → ((r : State) → (x : List Wanted) × (t : State) × (next r ≡ Next x t)) → IsOne (constant_by w.keyword next s)
+  constant_one next no_variable least taken = by w.keyword refl
+    where
+      now : (r : State) → is_unfilled w.keyword s ≡ false → IsOne (next r)
+      now r filled = let k = taken r in subst IsOne (sym k.2) ((λ _. no_variable), filled)
+
+      found : (k : Keyword) (variable : Sym) (at : ℕ) (o : Option ℕ) → w.keyword ≡ keyword.Hole variable at → number_of variable (values_around s.outer) ≡ o → IsOne (filled o next s)
+      found k variable at None is e = lowest_at w Here s fault.UnboundVariable least
+      found k variable at (Some m) is e = now (with_hole s m) (ap (λ (x : Keyword). is_unfilled x s) is ∙ ap (λ (o : Option ℕ). not (is_some o)) e)
+
+      by : (k : Keyword) → w.keyword ≡ k → IsOne (constant_by k next s)
+      by (keyword.Hole variable at) is = found (keyword.Hole variable at) variable at (number_of variable (values_around s.outer)) is refl
+      by _ is = now s (ap (λ (x : Keyword). is_unfilled x s) is)
+
+module _ (w : Word) (n : ℕ) (ws : List Wanted) (s : State) (proper : is_proper w ≡ true) where
   abbrev ValueHere : List Wanted
   ValueHere = Several InFixed n ∷ ws
 
-  -- of a word that is no variable
-  value_full : is_variable w.kind ≡ false → IsLowest (fault.LimitPassed limit.Fields) w ValueHere s
-  value_full no_variable fault.UnboundVariable in_form r = absurd (true≢false (sym r.1 ∙ no_variable))
-  value_full no_variable fault.DeclaredTwice in_form r = absurd (true≢false (sym r.1))
-  value_full no_variable fault.TwoVectors in_form r = absurd (true≢false (sym r.1))
-  value_full no_variable fault.UnknownClass in_form r = absurd (true≢false (sym r.0))
-  value_full no_variable fault.UnknownAttribute in_form r = absurd (true≢false (sym r.0))
-  value_full no_variable fault.LateDeclaration in_form r = absurd (true≢false (sym r.0))
-  value_full no_variable fault.FirstNegated in_form r = absurd (true≢false (sym r.1))
-  value_full no_variable fault.BadDesignator in_form r = absurd (true≢false (sym r))
-  value_full no_variable fault.AmbiguousDesignator in_form r = absurd (true≢false (sym r.0))
-  value_full no_variable (fault.LimitPassed l) in_form r = omega arith
-  value_full no_variable fault.Stray in_form r = absurd (true≢false in_form)
-  value_full no_variable fault.UnknownCommand in_form r = absurd (true≢false in_form)
-  value_full no_variable fault.BadForm in_form r = absurd (true≢false in_form)
-  value_full no_variable _ in_form r = absurd r
-
-  -- a value that is taken is no variable
   abbrev IsValue : Step → Type 0
-  IsValue (Next ws' s') = is_variable w.kind ≡ false
-  IsValue (Refuses f) = IsLowest f w ValueHere s
+  IsValue x = IsOne w InFixed n ws s x
 
   unbound_value : (o : Option ℕ) → IsValue (bound_at ToConstants o ValueHere s)
   unbound_value (Some m) = lowest_at w ValueHere s fault.UnboundVariable (omega arith)
   unbound_value None = lowest_at w ValueHere s fault.UnboundVariable (omega arith)
 
   constant_value : (o : Option Value) → value_of w.kind w.name ≡ o → IsValue (constant_at ToConstants w o ValueHere s)
-  constant_value (Some v) e = value_no_variable w.kind w.name v e
+  constant_value (Some v) e =
+      constant_one w InFixed n ws s (λ r. Next ValueHere (with_constant ToConstants r v)) (value_no_variable w.kind w.name v e) (omega arith) (λ r. (ValueHere, with_constant ToConstants r v, refl))
   constant_value None e =
       cond_both (is_variable w.kind) _ _ IsValue (λ _. unbound_value (number_of w.name s.values)) (λ _. low w ValueHere s fault.BadForm (omega arith))
 
-  value_lowest : is_proper w ≡ true → IsValue (value_for ToConstants w ValueHere s)
-  value_lowest proper =
-      cond_both (is_literal w.keyword) _ _ IsValue (λ literal. ap is_variable (mark_kind w.kind w.keyword (literal_marks w.keyword literal) proper))
+  value_lowest : IsValue (value_for ToConstants w ValueHere s)
+  value_lowest =
+      cond_both (is_literal w.keyword) _ _ IsValue
+      (λ literal. ((λ _. ap is_variable (mark_kind w.kind w.keyword (literal_marks w.keyword literal) proper)), no_hole w.keyword s (mark_no_hole w.keyword (literal_marks w.keyword literal))))
       (λ _. cond_both (is_left w.kind && is_of_action ToConstants) _ _ IsValue
       (λ e. absurd (true≢false (sym (and_parts (is_left w.kind) (is_of_action ToConstants) e).1))) (λ _. constant_value (value_of w.kind w.name) refl))
 
-  within_lowest : (b : Bool) (x : Step) → IsValue x → HasLowest ValueHere w s (within b x)
-  within_lowest true (Next ws' s') v = tt
-  within_lowest true (Refuses f) v = v
-  within_lowest false (Next ws' s') v = value_full v
-  within_lowest false (Refuses f) v = v
-
-  values_lowest : is_proper w ≡ true → HasLowest ValueHere w s (several InFixed n w ws s)
-  values_lowest proper =
+  values_lowest : HasLowest ValueHere w s (several InFixed n w ws s)
+  values_lowest =
       cond_both (is_right w.kind || is_caret w.kind) _ _ (HasLowest ValueHere w s)
       (λ _. cond_both (is_right w.kind) _ _ (HasLowest ValueHere w s) (λ _. tt)
       (λ _. cond_both (is_caret w.kind) _ _ (HasLowest ValueHere w s) (λ _. tt) (λ _. low w ValueHere s fault.BadForm (omega arith))))
-      (λ _. within_lowest (nat_lt (n + length s.constants) most_fields) (value_for ToConstants w ValueHere s) (value_lowest proper))
+      (λ _. within_lowest w InFixed n ws s (nat_lt (n + length s.constants) most_fields) (value_for ToConstants w ValueHere s) value_lowest)
+
+  -- ---- a place
+
+  abbrev PlaceHere : List Wanted
+  PlaceHere = Several InPattern n ∷ ws
+
+  abbrev IsPlace : Step → Type 0
+  IsPlace x = IsOne w InPattern n ws s x
+
+  -- what is taken and is no hole
+  taken_place : is_hole w.keyword ≡ false → (wants_bound PlaceHere ≡ true → is_variable w.kind ≡ false) × (is_unfilled w.keyword s ≡ false)
+  taken_place none = ((λ wants. absurd (true≢false (sym wants))), no_hole w.keyword s none)
+
+  variable_place : (f : ℕ) (p : Pred) (behind : List Wanted) → is_variable w.kind ≡ true → (o : Option ℕ) → IsPlace (variable_tested f p o w.name behind s)
+  variable_place f p behind is (Some m) = taken_place (other_no_hole w.kind w.keyword is_variable refl is proper)
+  variable_place f pred.Eq behind is None = taken_place (other_no_hole w.kind w.keyword is_variable refl is proper)
+  variable_place f _ behind is None = lowest_at w PlaceHere s fault.UnboundVariable (omega arith)
+
+  constant_place : (f : ℕ) (p : Pred) (behind : List Wanted) (o : Option Value) → constant_of w.kind w.name ≡ o → IsPlace (constant_tested f p w o behind s)
+  constant_place f p behind (Some v) e =
+      constant_one w InPattern n ws s (λ r. Next behind (with_constant (ToTest f p) r v)) (constant_no_variable w.kind w.name v e) (omega arith) (λ r. (behind, with_constant (ToTest f p) r v, refl))
+  constant_place f p behind None e =
+      cond_both (is_variable w.kind) _ _ IsPlace (λ is. variable_place f p behind is (number_of w.name s.values)) (λ _. low w PlaceHere s fault.BadForm (omega arith))
+
+  tested_place : (f : ℕ) (p : Pred) (behind : List Wanted) → IsPlace (tested f p w behind s)
+  tested_place f p behind =
+      cond_both (is_literal w.keyword) _ _ IsPlace (λ l. taken_place (mark_no_hole w.keyword (literal_marks w.keyword l))) (λ _. constant_place f p behind (constant_of w.kind w.name) refl)
+
+  predicated_place : (f : ℕ) (behind : List Wanted) (o : Option Pred) → pred_of w.keyword ≡ o → IsPlace (predicated f w o behind s)
+  predicated_place f behind (Some p) e = taken_place (mark_no_hole w.keyword (pred_marks w.keyword p e))
+  predicated_place f behind None e = tested_place f pred.Eq behind
+
+  place_lowest : (f : ℕ) (behind : List Wanted) → IsPlace (place f w behind s)
+  place_lowest f behind =
+      cond_both (is_left_brace w.kind) _ _ IsPlace (λ is. taken_place (other_no_hole w.kind w.keyword is_left_brace refl is proper))
+      (λ _. cond_both (opens_choice w.keyword) _ _ IsPlace (λ o. taken_place (mark_no_hole w.keyword (opening_marks w.keyword o))) (λ _. predicated_place f behind (pred_of w.keyword) refl))
+
+  places_lowest : HasLowest PlaceHere w s (several InPattern n w ws s)
+  places_lowest =
+      cond_both (is_right w.kind || is_caret w.kind) _ _ (HasLowest PlaceHere w s)
+      (λ _. cond_both (is_right w.kind) _ _ (HasLowest PlaceHere w s) (λ _. tt)
+      (λ _. cond_both (is_caret w.kind) _ _ (HasLowest PlaceHere w s) (λ _. tt) (λ _. low w PlaceHere s fault.BadForm (omega arith))))
+      (λ _. within_lowest w InPattern n ws s (nat_lt n most_fields) (place n w (Several InPattern (n + 1) ∷ ws) s) (place_lowest n (Several InPattern (n + 1) ∷ ws)))
 
 -- No fault in a form with a lower number has its reason where a word of a text is refused.
 pub refused-lowest : (w : Word) (ws : List Wanted) (s : State) (f : Fault) → AreArranged ws s → is_proper w ≡ true → step w ws s ≡ Refuses f → IsLowest f w ws s
 unfolding step
 refused-lowest w (Attributes ∷ ws) s f arranged proper e = subst (HasLowest (Attributes ∷ ws) w s) e (attributes_lowest w ws s)
 refused-lowest w (Several InFixed n ∷ ws) s f arranged proper e = subst (HasLowest (Several InFixed n ∷ ws) w s) e (values_lowest w n ws s proper)
+refused-lowest w (Several InPattern n ∷ ws) s f arranged proper e = subst (HasLowest (Several InPattern n ∷ ws) w s) e (places_lowest w n ws s proper)
 refused-lowest w ws s f arranged proper e = reason_lowest w ws s refl f (refused-because w ws s f arranged e)

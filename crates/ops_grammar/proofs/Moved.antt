@@ -2,26 +2,31 @@
 use Rattle.std.proofs.Common.{◌≡◌, ℕ, suc, List, [], ◌∷◌, ◌∙◌, refl, ap, subst, Option, Some, None}
 use Rattle.ops_base.specs.declared.values.Sym.{Sym}
 use Rattle.ops_grammar.specs.declared.words.Word.{Word}
-use Rattle.ops_grammar.specs.Grammar.{Use, InPattern, InPut, InFixed, Target, ToTest, ToPut, ToFixed, ToTerms, ToConstants, ToItem, ToBind, Wanted, Terms, Several, Place, Tests, Tested, Choice, Atom, ValueFor, Function, Waiting, ExpressionUnit, ExpressionRest, SourceAttribute, SourceEnd, is_of_action, takes_several, behind_attribute}
-use Rattle.ops_grammar.specs.Derivation.{Derives, nothing, no_form, a_form, a_literalize, a_class, an_attribute, no_attribute, a_vector_declaration, a_vector, one_more_vector, no_more_vectors, a_production, a_rule, a_first, a_braced_first, a_negated_first, a_pattern, a_braced_pattern, a_negated_pattern, a_whole_pattern, a_name_before, a_name_behind, an_element_name, a_closed_brace, an_arrow, a_make, a_run, a_count, no_count, a_strategy, a_strategy_name, no_strategy_name, a_remove_command, all_tags, a_first_tag, a_wm, one_more_tag, no_more_tags, a_ppwm, a_shown_class, all_shown, a_cs, an_exit, a_pm, a_pbreak, a_named_rule, one_more_rule, no_more_rules, a_watch, a_back, a_level, some_undone, no_level, one_undone, a_class_name, a_term, no_term, a_scalar_attribute, a_vector_attribute, one_more_place, one_more_term, one_more_constant, no_more_of_several, a_value, a_literal_value, a_function, a_compute, a_genatom, an_accept, a_unit, a_bracketed_unit, a_bracketed_compute, a_bracketed_expression, an_operation, no_operation, a_substr, a_source, a_source_attribute, the_same_again, up_to_inf, an_atom, a_conjunction, no_more_tests, an_operand, a_literal, a_predicate, a_disjunction, one_more_operand, one_more_literal, one_more_predicate, one_more_disjunction, a_tested_operand, a_tested_literal, one_more_choice, no_more_choices, an_action, no_action, to_make, to_modify, to_bind, to_cbind, to_remove, to_write, to_halt, a_modified, a_bound_name, a_bound_value, no_bound_value, a_cell_name, a_cell, one_more_cell, no_more_cells, an_item, a_literal_item, an_item_form, no_item, a_crlf, a_tab, a_right, a_function_item, some_columns, a_closing, a_group, a_member, no_member, a_group_first, a_group_pattern, an_excise, a_matches}
+use Rattle.ops_grammar.specs.Grammar.{Use, InPattern, InPut, InFixed, Target, ToTest, ToPut, ToFixed, ToTerms, ToConstants, ToItem, ToBind, Wanted, Terms, Several, Place, Tests, Tested, Choice, Atom, ValueFor, Function, Waiting, ExpressionUnit, ExpressionRest, SourceAttribute, SourceEnd, is_of_action, takes_several, behind_attribute, Bracketed}
+use Rattle.ops_grammar.specs.Derivation.{Derives, nothing, no_form, a_form, a_literalize, a_class, an_attribute, no_attribute, a_vector_declaration, a_vector, one_more_vector, no_more_vectors, a_production, a_rule, a_first, a_braced_first, a_negated_first, a_pattern, a_braced_pattern, a_negated_pattern, a_whole_pattern, a_name_before, a_name_behind, an_element_name, a_closed_brace, an_arrow, a_make, a_run, a_count, no_count, a_strategy, a_strategy_name, no_strategy_name, a_remove_command, all_tags, a_first_tag, a_wm, one_more_tag, no_more_tags, a_ppwm, a_shown_class, all_shown, a_cs, an_exit, a_pm, a_pbreak, a_named_rule, one_more_rule, no_more_rules, a_watch, a_back, a_level, some_undone, no_level, one_undone, a_class_name, a_term, no_term, a_scalar_attribute, a_vector_attribute, one_more_place, one_more_term, one_more_constant, no_more_of_several, a_value, a_literal_value, a_function, a_compute, a_genatom, an_accept, a_unit, a_bracketed_unit, a_bracketed_compute, a_bracketed_expression, an_operation, no_operation, a_substr, a_source, a_source_attribute, the_same_again, up_to_inf, an_atom, a_conjunction, no_more_tests, an_operand, a_literal, a_predicate, a_disjunction, one_more_operand, one_more_literal, one_more_predicate, one_more_disjunction, a_tested_operand, a_tested_literal, one_more_choice, no_more_choices, an_action, no_action, to_make, to_modify, to_bind, to_cbind, to_remove, to_write, to_halt, a_modified, a_bound_name, a_bound_value, no_bound_value, a_cell_name, a_cell, one_more_cell, no_more_cells, an_item, a_literal_item, an_item_form, no_item, a_crlf, a_tab, a_right, a_function_item, some_columns, a_closing, a_group, a_member, no_member, a_group_first, a_group_pattern, an_excise, a_matches, a_built_name, to_build}
 
 -- which place is to stand for each, and what is to wait in an expression for what waits there
 record Move : Type 0 where
   place : ℕ → ℕ
   waiting : List Waiting → List Waiting
+  pub depth : ℕ → ℕ
 
 abbrev to_place : ℕ → Move
-to_place g = record { place = λ f. g; waiting = λ waiting. waiting }
+to_place g = record { place = λ f. g; waiting = λ waiting. waiting; depth = λ d. d }
 
 abbrev to_waiting : List Waiting → Move
-to_waiting more = record { place = λ f. f; waiting = λ waiting. more }
+to_waiting more = record { place = λ f. f; waiting = λ waiting. more; depth = λ d. d }
 
 abbrev standing_still : Move
-standing_still = record { place = λ f. f; waiting = λ waiting. waiting }
+standing_still = record { place = λ f. f; waiting = λ waiting. waiting; depth = λ d. d }
 
 -- its places alone
 abbrev place_only : Move → Move
-place_only g = record { place = g.place; waiting = λ waiting. waiting }
+place_only g = record { place = g.place; waiting = λ waiting. waiting; depth = g.depth }
+
+-- where this many brackets are open
+abbrev at_depth : (ℕ → ℕ) → ℕ → Move
+at_depth place n = record { place = place; waiting = λ waiting. waiting; depth = λ d. n }
 
 abbrev target_at : Move → Target → Target
 target_at g (ToTest f p) = ToTest (g.place f) p
@@ -46,7 +51,9 @@ at_place g (Choice f) = Choice (g.place f)
 at_place g (Atom t) = Atom (target_at g t)
 at_place g (ValueFor t) = ValueFor (target_at g t)
 at_place g (Function t) = Function (target_at g t)
-at_place g (ExpressionRest d waiting into) = ExpressionRest d (g.waiting waiting) (into_at g into)
+at_place g (ExpressionUnit d) = ExpressionUnit (g.depth d)
+at_place g (Bracketed d) = Bracketed (g.depth d)
+at_place g (ExpressionRest d waiting into) = ExpressionRest (g.depth d) (g.waiting waiting) (into_at g into)
 at_place g (SourceAttribute t) = SourceAttribute (target_at g t)
 at_place g (SourceEnd t name) = SourceEnd (target_at g t) name
 at_place g w = w
@@ -157,11 +164,11 @@ front_moved (no_more_of_several d) (g ∷ gs) = no_more_of_several (front_moved 
 front_moved (a_value e d) (g ∷ gs) = a_value e (front_moved d gs)
 front_moved (a_literal_value e d) (g ∷ gs) = a_literal_value e (front_moved d (g ∷ gs))
 front_moved (a_function {t = t} e of_action d) (g ∷ gs) = a_function e (action_moved g t ∙ of_action) (front_moved d (g ∷ gs))
-front_moved (a_compute e d) (g ∷ gs) = a_compute e (front_moved d (g ∷ place_only g ∷ gs))
+front_moved (a_compute depth e d) (g ∷ gs) = a_compute (g.depth depth) e (front_moved d (g ∷ place_only g ∷ gs))
 front_moved (a_genatom e d) (g ∷ gs) = a_genatom e (front_moved d (g ∷ gs))
 front_moved (an_accept e d) (g ∷ gs) = an_accept e (front_moved d (g ∷ gs))
 front_moved (a_unit e d) (g ∷ gs) = a_unit e (front_moved d gs)
-front_moved (a_bracketed_unit e d) (g ∷ gs) = a_bracketed_unit e (front_moved d (g ∷ gs))
+front_moved (a_bracketed_unit {d = depth} e d) (g ∷ gs) = a_bracketed_unit e (front_moved d (at_depth g.place (suc (g.depth depth)) ∷ gs))
 front_moved (a_bracketed_compute e d) (g ∷ gs) = a_bracketed_compute e (front_moved d (g ∷ place_only g ∷ gs))
 front_moved (a_bracketed_expression d) (g ∷ gs) = a_bracketed_expression (front_moved d (g ∷ place_only g ∷ gs))
 front_moved (an_operation more e d) (g ∷ gs) = an_operation (g.waiting more) e (front_moved d (g ∷ g ∷ gs))
@@ -195,6 +202,8 @@ front_moved (to_cbind e d) (g ∷ gs) = to_cbind e (front_moved d (g ∷ g ∷ g
 front_moved (to_remove e d) (g ∷ gs) = to_remove e (front_moved d (g ∷ g ∷ gs))
 front_moved (to_write e d) (g ∷ gs) = to_write e (front_moved d (g ∷ gs))
 front_moved (to_halt e d) (g ∷ gs) = to_halt e (front_moved d (g ∷ gs))
+front_moved (to_build e d) (g ∷ gs) = to_build e (front_moved d (g ∷ g ∷ g ∷ g ∷ gs))
+front_moved (a_built_name e d) (g ∷ gs) = a_built_name e (front_moved d gs)
 front_moved (a_modified e d) (g ∷ gs) = a_modified e (front_moved d gs)
 front_moved (a_bound_name e d) (g ∷ gs) = a_bound_name e (front_moved d gs)
 front_moved (a_bound_value d) (g ∷ gs) = a_bound_value (front_moved d (g ∷ g ∷ gs))
@@ -239,3 +248,9 @@ pub whatever_waits : (vs : List Sym) (d : ℕ) (waiting : List Waiting) (into : 
 whatever_waits vs d waiting into ws ts derives more =
     subst (λ (o : Option Target). Derives vs (ExpressionUnit d ∷ ExpressionRest d more o ∷ ws) ts) (into_stands more into)
     (front_moved derives (standing_still ∷ to_waiting more ∷ []))
+
+-- However many brackets are open around an expression, the same derives.
+pub at_any_depth : (vs : List Sym) (d : ℕ) (t : Target) (ws : List Wanted) (ts : List Word) → Derives vs (ExpressionUnit d ∷ ExpressionRest d [] (Some t) ∷ ws) ts → (n : ℕ) → Derives vs (ExpressionUnit n ∷ ExpressionRest n [] (Some t) ∷ ws) ts
+at_any_depth vs d t ws ts derives n =
+    subst (λ (o : Option Target). Derives vs (ExpressionUnit n ∷ ExpressionRest n [] o ∷ ws) ts) (into_stands [] (Some t))
+    (front_moved derives (at_depth (λ f. f) n ∷ at_depth (λ f. f) n ∷ []))

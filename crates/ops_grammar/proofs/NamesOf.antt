@@ -11,9 +11,9 @@ use Rattle.ops_tokens.specs.declared.token.LexFault.{LexFault}
 use Rattle.ops_tokens.specs.declared.token.Token.{Token}
 use Rattle.ops_tokens.specs.declared.token.TokenKind.{TokenKind}
 use Rattle.ops_tokens.specs.Tokens.{spelling}
-use Rattle.ops_grammar.specs.Words.{lexed, has_name, names_with, names_from}
+use Rattle.ops_grammar.specs.Words.{lexed, has_name, names_with, names_from, tokens_of}
 use Rattle.ops_grammar.specs.Grammar.{Outcome}
-use Rattle.ops_grammar.specs.Reads.{Read, Placed, verdict, read_lexed, reads}
+use Rattle.ops_grammar.specs.Reads.{Read, Placed, verdict, reads, read_tokens}
 use Rattle.ops_grammar.specs.Standing.{words_of, outcome_of}
 use Rattle.ops_grammar.specs.TextNames.{IsNameIn, AreNamesOf}
 
@@ -100,31 +100,31 @@ names_made text names (t ∷ ts) =
 
 -- ---- the law
 
-name_from : (text s : List ℕ) → Contains (names_from text only_nil (lexed text).tokens).held s → (s ≡ codes "nil") ⊎ IsNameIn text s
+name_from : (text s : List ℕ) → Contains (names_from text only_nil (tokens_of text)).held s → (s ≡ codes "nil") ⊎ IsNameIn text s
 name_from text s c =
-    elim (names_cases text only_nil (lexed text).tokens s c) [
+    elim (names_cases text only_nil (tokens_of text) s c) [
       | inl nil ↦ inl (sym (one_alone (codes "nil") s nil))
       | inr n ↦ inr (record { token = n.0; stands = n.1; named = n.2; spelled = n.3 })
     ]
 
-name_held : (text s : List ℕ) → (s ≡ codes "nil") ⊎ IsNameIn text s → Contains (names_from text only_nil (lexed text).tokens).held s
-name_held text s (inl nil) = names_kept text only_nil (lexed text).tokens s (0, omega arith, sym nil)
+name_held : (text s : List ℕ) → (s ≡ codes "nil") ⊎ IsNameIn text s → Contains (names_from text only_nil (tokens_of text)).held s
+name_held text s (inl nil) = names_kept text only_nil (tokens_of text) s (0, omega arith, sym nil)
 name_held text s (inr n) =
-    subst (Contains (names_from text only_nil (lexed text).tokens).held) n.spelled (names_named text only_nil (lexed text).tokens n.token n.named n.stands)
+    subst (Contains (names_from text only_nil (tokens_of text)).held) n.spelled (names_named text only_nil (tokens_of text) n.token n.named n.stands)
 
-text_names : (text : List ℕ) → AreNamesOf text (names_from text only_nil (lexed text).tokens)
-text_names text = record { all = λ s. (name_from text s, name_held text s); none_made = names_made text only_nil (lexed text).tokens }
+text_names : (text : List ℕ) → AreNamesOf text (names_from text only_nil (tokens_of text))
+text_names text = record { all = λ s. (name_from text s, name_held text s); none_made = names_made text only_nil (tokens_of text) }
 
 verdict_names : (end : ℕ) (names : Spellings) (stop : Option LexFault) (o : Outcome) (r : Read) → verdict end names stop o ≡ Ok r → names ≡ r.names
 verdict_names end names stop (Err (f, Some w)) r e = absurd (cc)
 verdict_names end names stop (Err (f, None)) r e = absurd (cc)
 verdict_names end names (Some f) (Ok s) r e = absurd (cc)
 verdict_names end names None (Ok s) r e =
-    let same : record { classes = s.classes; rules = s.rules; commands = s.commands; names = names } ≡ r = cc in ap (λ (q : Read). q.names) same
+    let same : record { classes = s.classes; rules = s.rules; templates = s.templates; commands = s.commands; names = names } ≡ r = cc in ap (λ (q : Read). q.names) same
 
-by_length : (text : List ℕ) (r : Read) (long : Bool) → (let x : Result Read Placed = cond long (Err (record { fault = fault.TooLong; at = 0 })) (read_lexed text (lexed text)) in x ≡ Ok r) → names_from text only_nil (lexed text).tokens ≡ r.names
+by_length : (text : List ℕ) (r : Read) (long : Bool) → (let x : Result Read Placed = cond long (Err (record { fault = fault.TooLong; at = 0 })) (read_tokens text (lexed text).stop (tokens_of text)) in x ≡ Ok r) → names_from text only_nil (tokens_of text) ≡ r.names
 by_length text r true e = absurd (cc)
-by_length text r false e = verdict_names (length text) (names_from text only_nil (lexed text).tokens) (lexed text).stop (outcome_of (words_of text)) r e
+by_length text r false e = verdict_names (length text) (names_from text only_nil (tokens_of text)) (lexed text).stop (outcome_of (words_of text)) r e
 
 -- The names of what is read are nil and those of the text, and none was made.
 pub reads-names : (text : List ℕ) (r : Read) → reads text ≡ Ok r → AreNamesOf text r.names

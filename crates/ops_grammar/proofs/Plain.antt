@@ -1,5 +1,5 @@
 -- What holds of what was read so far, so that it has a spelling.
-use Rattle.std.proofs.Common.{◌≡◌, ℕ, suc, ◌+◌, ◌<◌, ◌≤◌, Bool, true, false, not, ◌||◌, ◌==◌, cond, List, [], ◌∷◌, ◌++◌, length, take, map, refl, sym, ap, ◌∙◌, arith, Option, Some, None, nat_lt, true≢false, ◌&&◌}
+use Rattle.std.proofs.Common.{◌≡◌, ℕ, suc, ◌+◌, ◌<◌, ◌≤◌, Bool, true, false, not, ◌||◌, ◌==◌, cond, List, [], ◌∷◌, ◌++◌, length, take, map, refl, sym, ap, ◌∙◌, arith, Option, Some, None, is_some, nat_lt, true≢false, ◌&&◌}
 use Rattle.std.specs.List.{list_all, All}
 use Rattle.std.proofs.lemmas.Bool.{and_parts, and_from, or_left, or_right, eq-eqb, ltb-true, lt-ltb, cond_both}
 use Rattle.ops_base.specs.declared.values.Sym.{Sym}
@@ -9,23 +9,27 @@ use Rattle.ops_base.specs.declared.conditions.Test.{Test}
 use Rattle.ops_base.specs.declared.conditions.Condition.{Condition}
 use Rattle.ops_base.specs.declared.conditions.Part.{Part}
 use Rattle.ops_base.specs.declared.conditions.Part.TheVariants.{One, Group}
+use Rattle.ops_base.specs.declared.actions.Hole.{Hole}
 use Rattle.ops_base.specs.declared.actions.Action.{Action}
 use Rattle.ops_base.specs.declared.rules.Rule.{Rule}
 use Rattle.ops_base.specs.declared.commands.Command.{Command}
+use Rattle.ops_base.specs.Filling.{one, in_test, in_condition, in_part, in_term, in_put, in_item, in_action, total}
 use Rattle.ops_base.specs.Valid.{most_fields, most_conditions, is_in, class_of, is_attribute, is_vector, is_field, is_natural, first_is_positive, cells_of, fixed_is_valid, elements_of}
 use Rattle.ops_grammar.specs.declared.words.Named.{Named}
-use Rattle.ops_grammar.specs.Grammar.{Use, InPattern, InPut, InFixed, Target, ToTest, ToPut, ToFixed, ToTerms, ToConstants, ToItem, ToBind, EndsHalt, EndsCrlf, EndsCs, EndsExit, EndsWhole, Column, TagUse, NameUse, Wanted, Forms, Form, ClassDeclared, Attributes, VectorName, VectorNames, RuleName, FirstPattern, Patterns, Pattern, Braced, ElementName, ClosesBrace, ClassName, Terms, Attribute, Several, Place, Tests, Tested, Choice, Atom, ValueFor, Function, Waiting, ExpressionUnit, ExpressionRest, Bracketed, SourceCell, SourceAttribute, SourceEnd, Actions, ActionWord, Modified, BoundName, BoundValue, CellName, Cell, Cells, Items, ItemWord, Columns, Count, StrategyName, TagOrAll, Tags, Shown, NamedRule, NamedRules, Level, Undone, Closes, State, Step, Next, Refuses, number_of, renumbered, precedes_classes, is_of_action, most_brackets, function_depth, classes_of_cells, source_class, GroupBrace, Members}
-use Rattle.ops_grammar.specs.Spelling.{Numbered, nothing_numbered, test_is_plain, after_test, tests_are_plain, after_tests, after_condition, after_part, condition_is_plain, part_is_plain, conditions_are_plain, after_conditions, InSight, at_arrow, class_of_cell, after_action, after_actions, term_is_plain, put_is_plain, item_is_plain, action_is_plain, actions_are_plain, rule_is_plain, command_is_plain, after_members, members_are_plain}
+use Rattle.ops_grammar.specs.Grammar.{Use, InPattern, InPut, InFixed, Target, ToTest, ToPut, ToFixed, ToTerms, ToConstants, ToItem, ToBind, EndsHalt, EndsCrlf, EndsCs, EndsExit, EndsWhole, Column, TagUse, NameUse, Wanted, Forms, Form, ClassDeclared, Attributes, VectorName, VectorNames, RuleName, FirstPattern, Patterns, Pattern, Braced, ElementName, ClosesBrace, ClassName, Terms, Attribute, Several, Place, Tests, Tested, Choice, Atom, ValueFor, Function, Waiting, ExpressionUnit, ExpressionRest, Bracketed, SourceCell, SourceAttribute, SourceEnd, Actions, ActionWord, BuiltName, Outer, Modified, BoundName, BoundValue, CellName, Cell, Cells, Items, ItemWord, Columns, Count, StrategyName, TagOrAll, Tags, Shown, NamedRule, NamedRules, Level, Undone, Closes, State, Step, Next, Refuses, number_of, renumbered, precedes_classes, is_of_action, most_brackets, function_depth, is_built, added_by, classes_of_cells, source_class, GroupBrace, Members}
+use Rattle.ops_grammar.specs.Spelling.{Numbered, nothing_numbered, test_is_plain, after_test, tests_are_plain, after_tests, after_condition, after_part, condition_is_plain, part_is_plain, conditions_are_plain, after_conditions, InSight, at_arrow, class_of_cell, after_action, after_actions, term_is_plain, put_is_plain, item_is_plain, action_is_plain, actions_are_plain, rule_is_plain, command_is_plain, after_members, members_are_plain, builds_none, build_is_plain, holes_are_plain, templates_in, templates_by, are_next}
 use Rattle.ops_grammar.proofs.Lists.{all_weaker}
-use Rattle.ops_grammar.proofs.Sound.{Braces, behind, HasTags, HasNames, at}
+use Rattle.ops_grammar.proofs.Sound.{Braces, sides, behind, HasTags, HasNames, at}
 use Rattle.ops_grammar.proofs.PlainClasses.{IsArranged, IsAttributes}
 use Rattle.ops_grammar.proofs.PlainFormulas.{IsOperand, AreOperands, AreOpen}
 
--- the forms that were read
-pub record IsBase (vectors : List Sym) (classes : List Class) (rules : List Rule) (commands : List Command) : Type 0 where
+-- the forms that were read, where a production that is read builds from the templates with these numbers
+pub record IsBase (vectors : List Sym) (classes : List Class) (rules templates : List Rule) (commands : List Command) (built : List ℕ) : Type 0 where
   pub arranged : All (IsArranged vectors) classes
-  pub rules_plain : list_all (rule_is_plain classes) rules ≡ true
-  pub commands_plain : list_all (command_is_plain classes) commands ≡ true
+  pub rules_plain : list_all (rule_is_plain classes templates) rules ≡ true
+  pub commands_plain : list_all (command_is_plain classes templates) commands ≡ true
+  pub order : are_next 0 (templates_by (rules ++ added_by commands) ++ built) ≡ true
+  pub size : length (templates_by (rules ++ added_by commands) ++ built) ≡ length templates
 
 -- the numbers of these variables
 abbrev pub numbers_in : List Named → List ℕ
@@ -50,16 +54,50 @@ abbrev pub made_is_class : List Class → Option ℕ → Bool
 made_is_class classes None = true
 made_is_class classes (Some class) = nat_lt class (length classes)
 
--- a rule up to some actions, after which so much is in sight
-pub record IsRight (classes : List Class) (conditions : List Part) (k : InSight) (elements : List Named) (actions : List Action) : Type 0 where
+-- A rule up to some actions, after which so much is in sight. A `build` is plain by a test.
+pub record IsRight (builds : InSight → ℕ → List Hole → Bool) (built : Bool) (classes : List Class) (conditions : List Part) (k : InSight) (elements : List Named) (actions : List Action) : Type 0 where
   pub positive : first_is_positive conditions ≡ true
   pub few : length (elements_of conditions) ≤ most_conditions
   pub left : conditions_are_plain classes nothing_numbered conditions ≡ true
-  pub plain : actions_are_plain classes (at_arrow conditions) actions ≡ true
-  pub sight : after_actions (at_arrow conditions) actions ≡ k
+  pub plain : actions_are_plain builds classes (at_arrow built conditions) actions ≡ true
+  pub sight : after_actions (at_arrow built conditions) actions ≡ k
   pub named : list_all (λ e. nat_lt e.number (length k.cells)) elements ≡ true
   pub cells : list_all (λ c. nat_lt c (length classes)) k.cells ≡ true
   pub made : made_is_class classes k.made ≡ true
+
+-- a production in another one builds none
+abbrev pub builds_of : List Class → List Rule → Option Outer → (InSight → ℕ → List Hole → Bool)
+builds_of classes templates None = build_is_plain classes templates
+builds_of classes templates (Some o) = builds_none
+
+-- what is in sight in the production around
+abbrev pub sight_of : Outer → InSight
+sight_of o = record { built = false; variables = numbered_in o.values o.variables; cells = cells_of o.conditions ++ o.further; made = o.made }
+
+-- the production around the one that is read, where there is one
+abbrev pub HasOuter : List Class → List Rule → Option Outer → Type 0
+HasOuter classes templates None = Unit {0}
+HasOuter classes templates (Some o) = IsRight (build_is_plain classes templates) false classes o.conditions (sight_of o) o.elements o.actions
+
+-- so many constants of a production in another one were read, and its holes are among them
+abbrev pub Counted : Option Outer → List Hole → ℕ → ℕ → Type 0
+Counted None holes counted n = Unit {0}
+Counted (Some o) holes counted n = (counted ≡ n) × (holes_are_plain (numbers_in o.values) 0 counted holes ≡ true)
+
+-- a production that is read, of which so many constants were read
+pub record IsSet (vectors : List Sym) (classes : List Class) (rules templates : List Rule) (commands : List Command) (built : List ℕ) (outer : Option Outer) (holes : List Hole) (counted n : ℕ) : Type 0 where
+  pub base : IsBase vectors classes rules templates commands built
+  pub outside : HasOuter classes templates outer
+  pub counts : Counted outer holes counted n
+
+-- the numbers of the templates from which a production that is read builds before the one in it, and before more actions
+abbrev pub built_around : Option Outer → List ℕ
+built_around None = []
+built_around (Some o) = templates_in o.actions
+
+abbrev pub built_so_far : Option Outer → List Action → List ℕ
+built_so_far None actions = templates_in actions
+built_so_far (Some o) actions = templates_in o.actions
 
 -- the first condition is positive, where this one stands after those
 abbrev pub begins_positive : List Part → Bool → Bool
@@ -67,17 +105,35 @@ begins_positive [] negated = not negated
 begins_positive ps negated = first_is_positive ps
 
 abbrev pub Base : State → Type 0
-Base s = IsBase s.vectors s.classes s.rules s.commands
+Base s = IsBase s.vectors s.classes s.rules s.templates s.commands []
+
+-- how many constants of a left side were read
+abbrev pub left_count : State → ℕ
+left_count s = total in_part s.conditions + total in_condition s.members + total in_test s.tests
+
+-- a left side, of which so many more constants were read, and a right side
+abbrev pub LeftSet : ℕ → State → Type 0
+LeftSet n s = IsSet s.vectors s.classes s.rules s.templates s.commands (built_around s.outer) s.outer s.holes s.counted (left_count s + n)
+
+abbrev pub right_count : State → ℕ
+right_count s = total in_part s.conditions + total in_action s.actions
+
+abbrev pub RightSet : ℕ → State → Type 0
+RightSet n s = IsSet s.vectors s.classes s.rules s.templates s.commands (built_so_far s.outer s.actions) s.outer s.holes s.counted (right_count s + n)
 
 abbrev pub Left : State → Type 0
 Left s = IsLeft s.classes s.values s.elements s.variables s.negated s.around s.conditions s.tests s.grouped s.members
 
 -- what is in sight in a right side
 abbrev pub in_sight : State → InSight
-in_sight s = record { variables = numbered_in s.values s.variables; cells = classes_of_cells s; made = s.made }
+in_sight s = record { built = is_some s.outer; variables = numbered_in s.values s.variables; cells = classes_of_cells s; made = s.made }
 
 abbrev pub Right : State → Type 0
-Right s = IsRight s.classes s.conditions (in_sight s) s.elements s.actions
+Right s = IsRight (builds_of s.classes s.templates s.outer) (is_some s.outer) s.classes s.conditions (in_sight s) s.elements s.actions
+
+-- how many brackets are open in a function
+abbrev pub depth_of : State → ℕ
+depth_of s = function_depth (is_built s)
 
 -- nothing was read that looks at the classes
 abbrev pub Declaring : State → Type 0
@@ -87,10 +143,11 @@ Declaring s = Base s × (length s.rules ≡ 0) × (list_all precedes_classes s.c
 abbrev pub numbered_inside : State → Numbered
 numbered_inside s = after_members (after_conditions nothing_numbered s.conditions) s.members
 
-abbrev pub Around : Use → State → Type 0
-Around InPattern s = Base s × Left s × (length (elements_of s.conditions) + length s.members < most_conditions) × (begins_positive s.conditions s.negated ≡ true) × (s.grouped ≡ true → first_is_positive s.conditions ≡ true)
-Around InPut s = Base s × Right s
-Around InFixed s = Base s
+-- an element stands in a production of which so many more constants were read, those of what it has aside
+abbrev pub Around : Use → ℕ → State → Type 0
+Around InPattern n s = LeftSet n s × Left s × (length (elements_of s.conditions) + length s.members < most_conditions) × (begins_positive s.conditions s.negated ≡ true) × (s.grouped ≡ true → first_is_positive s.conditions ≡ true)
+Around InPut n s = RightSet (total in_put s.puts + n) s × Right s
+Around InFixed n s = Base s
 
 -- no attribute of an element was read, and of an action none but a `make`
 abbrev pub IsBegun : Use → State → Type 0
@@ -108,26 +165,26 @@ HasFields InPattern s = tests_are_plain (class_of s.classes s.class) (numbered_i
 HasFields InPut s = (list_all (put_is_plain s.classes (in_sight s) (class_of s.classes s.class)) s.puts ≡ true) × IsOfCell s.modified (in_sight s) s.class
 HasFields InFixed s = list_all (fixed_is_valid (class_of s.classes s.class)) s.fixed ≡ true
 
-pub record IsElement (u : Use) (s : State) : Type 0 where
-  pub around : Around u s
+pub record IsElement (u : Use) (n : ℕ) (s : State) : Type 0 where
+  pub around : Around u n s
   pub class : s.class < length s.classes
   pub fields : HasFields u s
 
 abbrev pub HasCells : State → Type 0
-HasCells s = Base s × Right s × (list_all (λ c. nat_lt c (length (classes_of_cells s))) s.cells ≡ true)
+HasCells s = RightSet 0 s × Right s × (list_all (λ c. nat_lt c (length (classes_of_cells s))) s.cells ≡ true)
 
 abbrev pub HasItems : State → Type 0
-HasItems s = Base s × Right s × (list_all (item_is_plain s.classes (in_sight s)) s.items ≡ true)
+HasItems s = RightSet (total in_item s.items) s × Right s × (list_all (item_is_plain s.classes (in_sight s)) s.items ≡ true)
 
 -- the conditions of a rule up to the last of them
 abbrev pub Conditions : State → Type 0
 Conditions s =
-    Base s × Left s × (s.tests ≡ []) × (first_is_positive s.conditions ≡ true) × (length (elements_of s.conditions) ≤ most_conditions) × (s.negated ≡ false) × (s.grouped ≡ false)
+    LeftSet 0 s × Left s × (s.tests ≡ []) × (first_is_positive s.conditions ≡ true) × (length (elements_of s.conditions) ≤ most_conditions) × (s.negated ≡ false) × (s.grouped ≡ false)
 
 -- those and the members of a group up to the last of them
 abbrev pub AmongMembers : ℕ → State → Type 0
 AmongMembers n s =
-    Base s × Left s × (s.tests ≡ []) × (first_is_positive s.conditions ≡ true) × (length (elements_of s.conditions) + length s.members ≤ most_conditions) × (s.grouped ≡ true) × (length s.members ≡ n)
+    LeftSet 0 s × Left s × (s.tests ≡ []) × (first_is_positive s.conditions ≡ true) × (length (elements_of s.conditions) + length s.members ≤ most_conditions) × (s.grouped ≡ true) × (length s.members ≡ n)
 
 -- a command up to its next tag, or to its next name
 abbrev pub AtTags : TagUse → State → Type 0
@@ -155,9 +212,9 @@ HasMore (Some f) s = (class_of s.classes s.class).vector ≡ true
 
 -- up to some of the places or values of the vector attribute
 abbrev pub HasSeveral : Use → ℕ → State → Type 0
-HasSeveral InPattern f s = IsElement InPattern s × HasMore (Some f) s
-HasSeveral InPut f s = IsElement InPut s × HasAttribute s f × IsVector s f true × (list_all (term_is_plain s.classes (in_sight s) true) s.terms ≡ true)
-HasSeveral InFixed f s = IsElement InFixed s × HasAttribute s f × IsVector s f true × (f + length s.constants ≤ most_fields)
+HasSeveral InPattern f s = IsElement InPattern 0 s × HasMore (Some f) s
+HasSeveral InPut f s = IsElement InPut (total in_term s.terms) s × HasAttribute s f × IsVector s f true × (list_all (term_is_plain s.classes (in_sight s) true) s.terms ≡ true)
+HasSeveral InFixed f s = IsElement InFixed 0 s × HasAttribute s f × IsVector s f true × (f + length s.constants ≤ most_fields)
 
 -- Where a test or a value stands: in an element in these braces, with this place of the vector attribute after it, or none, and
 -- in a conjunction or alone; or among the values of the vector attribute, which is this field.
@@ -171,43 +228,43 @@ pub record Spot : Type 0 where
 abbrev pub placed : State → Spot → Spot
 placed s p = record p { braces = at s p.braces }
 
--- a place of a pattern, with another one after it or none
-abbrev pub HasPlace : Option ℕ → ℕ → State → Type 0
-HasPlace more f s = IsElement InPattern s × HasField s f × HasMore more s
+-- a place of a pattern, with another one after it or none, where so many more constants were read
+abbrev pub HasPlace : Option ℕ → ℕ → ℕ → State → Type 0
+HasPlace more f n s = IsElement InPattern n s × HasField s f × HasMore more s
 
 -- where a constant goes
 abbrev pub HasTarget : Spot → Target → State → Type 0
-HasTarget p (ToTest f q) s = HasPlace p.more f s
-HasTarget p (ToPut f) s = IsElement InPut s × HasAttribute s f
-HasTarget p (ToFixed f) s = IsElement InFixed s × HasAttribute s f × IsVector s f false
+HasTarget p (ToTest f q) s = HasPlace p.more f 0 s
+HasTarget p (ToPut f) s = IsElement InPut 0 s × HasAttribute s f
+HasTarget p (ToFixed f) s = IsElement InFixed 0 s × HasAttribute s f × IsVector s f false
 HasTarget p ToTerms s = HasSeveral InPut p.vector s
 HasTarget p ToConstants s = HasSeveral InFixed p.vector s × (p.vector + length s.constants < most_fields)
 HasTarget p ToItem s = HasItems s
-HasTarget p ToBind s = Base s × Right s
+HasTarget p ToBind s = RightSet 0 s × Right s
 
 -- the cell of a `substr` that is read
 abbrev pub IsSource : State → Type 0
 IsSource s = s.source < length (classes_of_cells s)
 
 -- what is wanted after a place: another attribute, or another place of the vector attribute
-abbrev pub behind_place : Braces → Option ℕ → List Wanted
-behind_place b None = Terms InPattern ∷ behind b InPattern
-behind_place b (Some f) = Several InPattern f ∷ behind b InPattern
+abbrev pub behind_place : Option Outer → Braces → Option ℕ → List Wanted
+behind_place o b None = Terms InPattern ∷ behind o b InPattern
+behind_place o b (Some f) = Several InPattern f ∷ behind o b InPattern
 
 -- what is wanted after a test: more of the conjunction that it stands in, or what is wanted after its place
-abbrev pub behind_test : Braces → Option ℕ → Bool → ℕ → List Wanted
-behind_test b more true f = Tests f ∷ behind_place b more
-behind_test b more false f = behind_place b more
+abbrev pub behind_test : Option Outer → Braces → Option ℕ → Bool → ℕ → List Wanted
+behind_test o b more true f = Tests f ∷ behind_place o b more
+behind_test o b more false f = behind_place o b more
 
 -- what is wanted after a constant
-abbrev pub behind_target : Spot → Target → List Wanted
-behind_target p (ToTest f q) = behind_test p.braces p.more p.among f
-behind_target p (ToPut f) = Terms InPut ∷ behind p.braces InPut
-behind_target p (ToFixed f) = Terms InFixed ∷ behind p.braces InFixed
-behind_target p ToTerms = Several InPut p.vector ∷ behind p.braces InPut
-behind_target p ToConstants = Several InFixed p.vector ∷ behind p.braces InFixed
-behind_target p ToItem = Items ∷ Actions ∷ Forms ∷ []
-behind_target p ToBind = Closes EndsWhole ∷ Actions ∷ Forms ∷ []
+abbrev pub behind_target : Option Outer → Spot → Target → List Wanted
+behind_target o p (ToTest f q) = behind_test o p.braces p.more p.among f
+behind_target o p (ToPut f) = Terms InPut ∷ sides o
+behind_target o p (ToFixed f) = Terms InFixed ∷ Forms ∷ []
+behind_target o p ToTerms = Several InPut p.vector ∷ sides o
+behind_target o p ToConstants = Several InFixed p.vector ∷ Forms ∷ []
+behind_target o p ToItem = Items ∷ sides o
+behind_target o p ToBind = Closes EndsWhole ∷ sides o
 
 -- what may be wanted, and what then holds
 pub data IsPlainly (s : State) : List Wanted → Type 0 where
@@ -217,51 +274,52 @@ pub data IsPlainly (s : State) : List Wanted → Type 0 where
   at_attributes : Declaring s × IsAttributes s.vectors s.attrs → IsPlainly s (Attributes ∷ Forms ∷ [])
   at_vector_name : Declaring s → IsPlainly s (VectorName ∷ VectorNames ∷ Forms ∷ [])
   at_vector_names : Declaring s → IsPlainly s (VectorNames ∷ Forms ∷ [])
-  at_rule_name : Base s → IsPlainly s (RuleName ∷ FirstPattern ∷ Patterns ∷ Actions ∷ Forms ∷ [])
-  at_first_pattern : Base s × Left s × (s.tests ≡ []) × (length s.conditions ≡ 0) × (s.negated ≡ false) × (s.grouped ≡ false) → IsPlainly s (FirstPattern ∷ Patterns ∷ Actions ∷ Forms ∷ [])
-  at_patterns : Conditions s → IsPlainly s (Patterns ∷ Actions ∷ Forms ∷ [])
-  at_pattern : (b : Braces) → Around InPattern s × (s.tests ≡ []) → IsPlainly s (Pattern ∷ behind (at s b) InPattern)
-  at_group : Conditions s → IsPlainly s (GroupBrace ∷ Patterns ∷ Actions ∷ Forms ∷ [])
-  at_members : (n : ℕ) → AmongMembers n s → IsPlainly s (Members n ∷ Patterns ∷ Actions ∷ Forms ∷ [])
-  at_braced : (Around InPattern s × (s.tests ≡ [])) × (s.grouped ≡ false) → IsPlainly s (Braced ∷ Patterns ∷ Actions ∷ Forms ∷ [])
-  at_element_name : Conditions s → IsPlainly s (ElementName ∷ ClosesBrace ∷ Patterns ∷ Actions ∷ Forms ∷ [])
-  at_closes_brace : Conditions s → IsPlainly s (ClosesBrace ∷ Patterns ∷ Actions ∷ Forms ∷ [])
-  at_class_name : (b : Braces) → (u : Use) → Around u s × IsBegun u s → IsPlainly s (ClassName ∷ Terms u ∷ behind (at s b) u)
-  at_terms : (b : Braces) → (u : Use) → IsElement u s → IsPlainly s (Terms u ∷ behind (at s b) u)
-  at_attribute : (b : Braces) → (u : Use) → IsElement u s → IsPlainly s (Attribute u ∷ behind (at s b) u)
-  at_several : (b : Braces) → (u : Use) → (f : ℕ) → HasSeveral u f s → IsPlainly s (Several u f ∷ behind (at s b) u)
-  at_place : (b : Braces) → (more : Option ℕ) → (f : ℕ) → HasPlace more f s → IsPlainly s (Place f ∷ behind_place (at s b) more)
-  at_tests : (b : Braces) → (more : Option ℕ) → (f : ℕ) → HasPlace more f s → IsPlainly s (Tests f ∷ behind_place (at s b) more)
-  at_tested : (p : Spot) → (f : ℕ) → (q : Pred) → HasPlace p.more f s → IsPlainly s (Tested f q ∷ behind_test (at s p.braces) p.more p.among f)
-  at_choice : (p : Spot) → (f : ℕ) → HasPlace p.more f s → IsPlainly s (Choice f ∷ behind_test (at s p.braces) p.more p.among f)
-  at_atom : (p : Spot) → (t : Target) → HasTarget p t s → IsPlainly s (Atom t ∷ behind_target (placed s p) t)
-  at_value : (p : Spot) → (t : Target) → HasTarget p t s → IsPlainly s (ValueFor t ∷ behind_target (placed s p) t)
-  at_function : (p : Spot) → (t : Target) → HasTarget p t s → is_of_action t ≡ true → IsPlainly s (Function t ∷ behind_target (placed s p) t)
-  at_expression_unit : (p : Spot) → (t : Target) → (d : ℕ) → (ws : List Wanted) → HasTarget p t s → is_of_action t ≡ true → AreOpen (numbers_in s.values) t (behind_target (placed s p) t) d ws → IsPlainly s (ExpressionUnit d ∷ ws)
-  at_last_rest : (p : Spot) → (t : Target) → (waiting : List Waiting) → HasTarget p t s → is_of_action t ≡ true → IsOperand (numbers_in s.values) function_depth true s.formula → AreOperands (numbers_in s.values) function_depth waiting
-      → IsPlainly s (ExpressionRest function_depth waiting (Some t) ∷ behind_target (placed s p) t)
+  at_rule_name : Base s → IsPlainly s (RuleName ∷ FirstPattern ∷ Patterns ∷ Actions false ∷ Forms ∷ [])
+  at_built_name : LeftSet 0 s × Left s × (s.tests ≡ []) × (length s.conditions ≡ 0) × (s.negated ≡ false) × (s.grouped ≡ false) → IsPlainly s (BuiltName ∷ FirstPattern ∷ Patterns ∷ sides s.outer)
+  at_first_pattern : LeftSet 0 s × Left s × (s.tests ≡ []) × (length s.conditions ≡ 0) × (s.negated ≡ false) × (s.grouped ≡ false) → IsPlainly s (FirstPattern ∷ Patterns ∷ sides s.outer)
+  at_patterns : Conditions s → IsPlainly s (Patterns ∷ sides s.outer)
+  at_pattern : (b : Braces) → Around InPattern 0 s × (s.tests ≡ []) → IsPlainly s (Pattern ∷ behind s.outer (at s b) InPattern)
+  at_group : Conditions s → IsPlainly s (GroupBrace ∷ Patterns ∷ sides s.outer)
+  at_members : (n : ℕ) → AmongMembers n s → IsPlainly s (Members n ∷ Patterns ∷ sides s.outer)
+  at_braced : (Around InPattern 0 s × (s.tests ≡ [])) × (s.grouped ≡ false) → IsPlainly s (Braced ∷ Patterns ∷ sides s.outer)
+  at_element_name : Conditions s → IsPlainly s (ElementName ∷ ClosesBrace ∷ Patterns ∷ sides s.outer)
+  at_closes_brace : Conditions s → IsPlainly s (ClosesBrace ∷ Patterns ∷ sides s.outer)
+  at_class_name : (b : Braces) → (u : Use) → Around u 0 s × IsBegun u s → IsPlainly s (ClassName ∷ Terms u ∷ behind s.outer (at s b) u)
+  at_terms : (b : Braces) → (u : Use) → IsElement u 0 s → IsPlainly s (Terms u ∷ behind s.outer (at s b) u)
+  at_attribute : (b : Braces) → (u : Use) → IsElement u 0 s → IsPlainly s (Attribute u ∷ behind s.outer (at s b) u)
+  at_several : (b : Braces) → (u : Use) → (f : ℕ) → HasSeveral u f s → IsPlainly s (Several u f ∷ behind s.outer (at s b) u)
+  at_place : (b : Braces) → (more : Option ℕ) → (f : ℕ) → HasPlace more f 0 s → IsPlainly s (Place f ∷ behind_place s.outer (at s b) more)
+  at_tests : (b : Braces) → (more : Option ℕ) → (f : ℕ) → HasPlace more f 0 s → IsPlainly s (Tests f ∷ behind_place s.outer (at s b) more)
+  at_tested : (p : Spot) → (f : ℕ) → (q : Pred) → HasPlace p.more f 0 s → IsPlainly s (Tested f q ∷ behind_test s.outer (at s p.braces) p.more p.among f)
+  at_choice : (p : Spot) → (f : ℕ) → HasPlace p.more f (total one s.choice) s → IsPlainly s (Choice f ∷ behind_test s.outer (at s p.braces) p.more p.among f)
+  at_atom : (p : Spot) → (t : Target) → HasTarget p t s → IsPlainly s (Atom t ∷ behind_target s.outer (placed s p) t)
+  at_value : (p : Spot) → (t : Target) → HasTarget p t s → IsPlainly s (ValueFor t ∷ behind_target s.outer (placed s p) t)
+  at_function : (p : Spot) → (t : Target) → HasTarget p t s → is_of_action t ≡ true → IsPlainly s (Function t ∷ behind_target s.outer (placed s p) t)
+  at_expression_unit : (p : Spot) → (t : Target) → (d : ℕ) → (ws : List Wanted) → HasTarget p t s → is_of_action t ≡ true → AreOpen (numbers_in s.values) (depth_of s) t (behind_target s.outer (placed s p) t) d ws → IsPlainly s (ExpressionUnit d ∷ ws)
+  at_last_rest : (p : Spot) → (t : Target) → (waiting : List Waiting) → HasTarget p t s → is_of_action t ≡ true → IsOperand (numbers_in s.values) (depth_of s) true s.formula → AreOperands (numbers_in s.values) (depth_of s) waiting
+      → IsPlainly s (ExpressionRest (depth_of s) waiting (Some t) ∷ behind_target s.outer (placed s p) t)
   at_bracketed_rest : (p : Spot) → (t : Target) → (d : ℕ) → (waiting : List Waiting) → (ws : List Wanted) → HasTarget p t s → is_of_action t ≡ true → IsOperand (numbers_in s.values) (suc d) true s.formula → nat_lt d most_brackets ≡ true
-      → AreOperands (numbers_in s.values) (suc d) waiting → AreOpen (numbers_in s.values) t (behind_target (placed s p) t) d ws → IsPlainly s (ExpressionRest (suc d) waiting None ∷ ws)
-  at_bracketed : (p : Spot) → (t : Target) → (d : ℕ) → (ws : List Wanted) → HasTarget p t s → is_of_action t ≡ true → nat_lt d most_brackets ≡ true → AreOpen (numbers_in s.values) t (behind_target (placed s p) t) d ws
+      → AreOperands (numbers_in s.values) (suc d) waiting → AreOpen (numbers_in s.values) (depth_of s) t (behind_target s.outer (placed s p) t) d ws → IsPlainly s (ExpressionRest (suc d) waiting None ∷ ws)
+  at_bracketed : (p : Spot) → (t : Target) → (d : ℕ) → (ws : List Wanted) → HasTarget p t s → is_of_action t ≡ true → nat_lt d most_brackets ≡ true → AreOpen (numbers_in s.values) (depth_of s) t (behind_target s.outer (placed s p) t) d ws
       → IsPlainly s (Bracketed (suc d) ∷ ws)
-  at_source_cell : (p : Spot) → (t : Target) → HasTarget p t s → is_of_action t ≡ true → IsPlainly s (SourceCell ∷ SourceAttribute t ∷ behind_target (placed s p) t)
-  at_source_attribute : (p : Spot) → (t : Target) → HasTarget p t s → is_of_action t ≡ true → IsSource s → IsPlainly s (SourceAttribute t ∷ behind_target (placed s p) t)
+  at_source_cell : (p : Spot) → (t : Target) → HasTarget p t s → is_of_action t ≡ true → IsPlainly s (SourceCell ∷ SourceAttribute t ∷ behind_target s.outer (placed s p) t)
+  at_source_attribute : (p : Spot) → (t : Target) → HasTarget p t s → is_of_action t ≡ true → IsSource s → IsPlainly s (SourceAttribute t ∷ behind_target s.outer (placed s p) t)
   at_source_end : (p : Spot) → (t : Target) → (name : Sym) → HasTarget p t s → is_of_action t ≡ true → IsSource s → is_attribute (source_class s) s.source_field ≡ true
-      → IsPlainly s (SourceEnd t name ∷ Closes EndsWhole ∷ behind_target (placed s p) t)
-  at_actions : Base s × Right s → IsPlainly s (Actions ∷ Forms ∷ [])
-  at_action_word : Base s × Right s → IsPlainly s (ActionWord ∷ Actions ∷ Forms ∷ [])
-  at_modified : Base s × Right s × (s.puts ≡ []) → IsPlainly s (Modified ∷ Terms InPut ∷ Actions ∷ Forms ∷ [])
-  at_bound_name : Base s × Right s → IsPlainly s (BoundName ∷ BoundValue ∷ Actions ∷ Forms ∷ [])
-  at_bound_value : Base s × Right s → IsPlainly s (BoundValue ∷ Actions ∷ Forms ∷ [])
-  at_cell_name : Base s × Right s → IsPlainly s (CellName ∷ Closes EndsWhole ∷ Actions ∷ Forms ∷ [])
-  at_cell : HasCells s → IsPlainly s (Cell ∷ Cells ∷ Actions ∷ Forms ∷ [])
-  at_cells : HasCells s × (0 < length s.cells) → IsPlainly s (Cells ∷ Actions ∷ Forms ∷ [])
-  at_items : HasItems s → IsPlainly s (Items ∷ Actions ∷ Forms ∷ [])
-  at_item_word : HasItems s → IsPlainly s (ItemWord ∷ Items ∷ Actions ∷ Forms ∷ [])
-  at_columns : (c : Column) → HasItems s → IsPlainly s (Columns c ∷ Closes EndsWhole ∷ Items ∷ Actions ∷ Forms ∷ [])
+      → IsPlainly s (SourceEnd t name ∷ Closes EndsWhole ∷ behind_target s.outer (placed s p) t)
+  at_actions : RightSet 0 s × Right s → IsPlainly s (sides s.outer)
+  at_action_word : RightSet 0 s × Right s → IsPlainly s (ActionWord (is_some s.outer) ∷ sides s.outer)
+  at_modified : RightSet 0 s × Right s × (s.puts ≡ []) → IsPlainly s (Modified ∷ Terms InPut ∷ sides s.outer)
+  at_bound_name : RightSet 0 s × Right s → IsPlainly s (BoundName ∷ BoundValue ∷ sides s.outer)
+  at_bound_value : RightSet 0 s × Right s → IsPlainly s (BoundValue ∷ sides s.outer)
+  at_cell_name : RightSet 0 s × Right s → IsPlainly s (CellName ∷ Closes EndsWhole ∷ sides s.outer)
+  at_cell : HasCells s → IsPlainly s (Cell ∷ Cells ∷ sides s.outer)
+  at_cells : HasCells s × (0 < length s.cells) → IsPlainly s (Cells ∷ sides s.outer)
+  at_items : HasItems s → IsPlainly s (Items ∷ sides s.outer)
+  at_item_word : HasItems s → IsPlainly s (ItemWord ∷ Items ∷ sides s.outer)
+  at_columns : (c : Column) → HasItems s → IsPlainly s (Columns c ∷ Closes EndsWhole ∷ Items ∷ sides s.outer)
   at_whole : (ws : List Wanted) → IsPlainly s ws → IsPlainly s (Closes EndsWhole ∷ ws)
-  at_crlf : HasItems s → IsPlainly s (Closes EndsCrlf ∷ Items ∷ Actions ∷ Forms ∷ [])
-  at_halt : Base s × Right s → IsPlainly s (Closes EndsHalt ∷ Actions ∷ Forms ∷ [])
+  at_crlf : HasItems s → IsPlainly s (Closes EndsCrlf ∷ Items ∷ sides s.outer)
+  at_halt : RightSet 0 s × Right s → IsPlainly s (Closes EndsHalt ∷ sides s.outer)
   at_count : Base s → IsPlainly s (Count ∷ Forms ∷ [])
   at_strategy_name : Base s → IsPlainly s (StrategyName ∷ Forms ∷ [])
   at_tag_or_all : Base s × (s.tags ≡ []) → IsPlainly s (TagOrAll ∷ Forms ∷ [])
@@ -303,11 +361,11 @@ pub after_actions-push : (xs : List Action) (k : InSight) (a : Action) → after
 after_actions-push [] k a = refl
 after_actions-push (x ∷ xs) k a = after_actions-push xs (after_action k x) a
 
-pub actions_push : (classes : List Class) (xs : List Action) (k : InSight) (a : Action) → actions_are_plain classes k xs ≡ true → action_is_plain classes (after_actions k xs) a ≡ true → actions_are_plain classes k (xs ++ a ∷ []) ≡ true
-actions_push classes [] k a h e = and_from _ _ e refl
-actions_push classes (x ∷ xs) k a h e =
-    let each = and_parts (action_is_plain classes k x) (actions_are_plain classes (after_action k x) xs) h in
-    and_from _ _ each.0 (actions_push classes xs (after_action k x) a each.1 e)
+pub actions_push : (builds : InSight → ℕ → List Hole → Bool) (classes : List Class) (xs : List Action) (k : InSight) (a : Action) → actions_are_plain builds classes k xs ≡ true → action_is_plain builds classes (after_actions k xs) a ≡ true → actions_are_plain builds classes k (xs ++ a ∷ []) ≡ true
+actions_push builds classes [] k a h e = and_from _ _ e refl
+actions_push builds classes (x ∷ xs) k a h e =
+    let each = and_parts (action_is_plain builds classes k x) (actions_are_plain builds classes (after_action k x) xs) h in
+    and_from _ _ each.0 (actions_push builds classes xs (after_action k x) a each.1 e)
 
 pub after_members-push : (cs : List Condition) (k : Numbered) (c : Condition) → after_members k (cs ++ c ∷ []) ≡ after_tests (after_members k cs) c.tests
 after_members-push [] k c = refl

@@ -4,7 +4,7 @@ use Rattle.std.proofs.lemmas.Bool.{and_parts, and_from, lt-ltb, ltb-true}
 use Rattle.ops_base.specs.Expression.{Formula, all_variables}
 use Rattle.ops_base.specs.Expression as formula
 use Rattle.ops_base.specs.Valid.{is_in}
-use Rattle.ops_grammar.specs.Grammar.{Target, Waiting, Wanted, ExpressionRest, most_brackets, function_depth, completed}
+use Rattle.ops_grammar.specs.Grammar.{Target, Waiting, Wanted, ExpressionRest, most_brackets, completed}
 use Rattle.ops_grammar.specs.Spelling.{nests_within}
 
 -- ---- brackets
@@ -49,11 +49,12 @@ abbrev pub AreOperands : List ℕ → ℕ → List Waiting → Type 0
 AreOperands sight d [] = Unit {0}
 AreOperands sight d (w ∷ waiting) = IsOperand sight d true w.left × AreOperands sight d waiting
 
--- This many brackets are open around what is wanted, in a function for this target: an expression goes on in each.
-pub data AreOpen (sight : List ℕ) (t : Target) (behind : List Wanted) : ℕ → List Wanted → Type 0 where
-  outermost : (waiting : List Waiting) → AreOperands sight function_depth waiting → AreOpen sight t behind function_depth (ExpressionRest function_depth waiting (Some t) ∷ behind)
-  bracket : (d : ℕ) → (waiting : List Waiting) → (ws : List Wanted) → nat_lt d most_brackets ≡ true → AreOperands sight (suc d) waiting → AreOpen sight t behind d ws
-      → AreOpen sight t behind (suc d) (ExpressionRest (suc d) waiting None ∷ ws)
+-- This many brackets are open around what is wanted, in a function for this target where so many are open at its top: an
+-- expression goes on in each.
+pub data AreOpen (sight : List ℕ) (top : ℕ) (t : Target) (behind : List Wanted) : ℕ → List Wanted → Type 0 where
+  outermost : (waiting : List Waiting) → AreOperands sight top waiting → AreOpen sight top t behind top (ExpressionRest top waiting (Some t) ∷ behind)
+  bracket : (d : ℕ) → (waiting : List Waiting) → (ws : List Wanted) → nat_lt d most_brackets ≡ true → AreOperands sight (suc d) waiting → AreOpen sight top t behind d ws
+      → AreOpen sight top t behind (suc d) (ExpressionRest (suc d) waiting None ∷ ws)
 
 module _ (sight : List ℕ) (d : ℕ) where
   completed_operand : (waiting : List Waiting) (f : Formula) → IsOperand sight d false f → AreOperands sight d waiting → IsOperand sight d false (completed f waiting)

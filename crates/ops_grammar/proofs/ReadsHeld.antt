@@ -41,10 +41,11 @@ use Rattle.ops_tokens.specs.Tokens.{spelling}
 use Rattle.ops_grammar.specs.declared.words.Word.{Word}
 use Rattle.ops_grammar.specs.declared.words.Keyword.{Keyword}
 use Rattle.ops_grammar.specs.declared.words.Keyword.TheVariants as keyword
-use Rattle.ops_grammar.specs.Words.{lexed, has_name, names_with, word_of, words_from, names_from, word_before}
-use Rattle.ops_grammar.specs.Grammar.{Use, Target, Ends, Column, TagUse, NameUse, Waiting, Wanted, State, Step, is_left, is_right, is_left_brace, is_right_brace, is_caret, is_name, is_variable, is_arrow, is_literal, is_minus, opens_choice, closes_choice, pred_of, constant_of, atom_of, value_of, small_of, is_one_of, number_of, may_declare, is_class, is_rule, form, class_declared, arranged, has_vector, with_class, is_second, attribute_declared, attributes, with_vector_last, with_vector, makes_second, vector_declared, vector_name, vector_names, class_at, class_name, attributes_of, field_at, attribute, with_test, with_put, with_fixed, with_item, with_bind, with_constant, with_bound, variable_tested, constant_tested, tested, predicated, test, place, tests, with_choice, chosen, choice, atom_at, term_at, bound_at, constant_at, is_of_action, value_for, most_brackets, no_formula, with_formula, completed, unit_bound, unit_at, expression_unit, bracketed, is_compute, operation_of, operation_at, expression_ended, expression_rest, function, source_named, source_cell, source_class, source_at, source_attribute, takes_several, ends_at_inf, source_end, with_action, with_command, with_condition, put_action, fixed_command, with_element, terms, within, one_of_several, with_several, several, rule_name, first_pattern, one_more, more_patterns, patterns, pattern, element_at, element_name, braced, closes_brace, classes_of_cells, with_rule, actions, action_word, cell_of, with_designated, with_modified, bound_name, bound_value, cell_bound, cell_name, cells, items, item_word, column_item, columns_at, ended, closes, count_of, counted, count, strategy_of, strategy_set, strategy_name, tag_at, is_all, tag_or_all, tag_command, tags, shown, named_rule, name_command, named_rules, level_of, undone_of, level_set, undone_set, level, undone, forms, step, Outcome, ends, after, goes, nothing_read, InPattern, InPut, InFixed, ToTest, ToPut, ToFixed, ToTerms, ToConstants, ToItem, ToBind, EndsHalt, EndsCrlf, EndsCs, EndsExit, EndsWhole, ToTab, ToRight, ToRemove, ToShow, ToPrint, ToBreak, Forms, Form, ClassDeclared, Attributes, VectorName, VectorNames, RuleName, FirstPattern, Patterns, Pattern, Braced, ElementName, ClosesBrace, ClassName, Terms, Attribute, Several, Place, Tests, Tested, Choice, Atom, ValueFor, Function, ExpressionUnit, ExpressionRest, Bracketed, SourceCell, SourceAttribute, SourceEnd, Actions, ActionWord, Modified, BoundName, BoundValue, CellName, Cell, Cells, Items, ItemWord, Columns, Count, StrategyName, TagOrAll, Tags, Shown, NamedRule, NamedRules, Level, Undone, Closes, Next, Refuses, begins_group, GroupBrace, Members, members, group, with_group, with_member, with_one, has_room, ToExcise, ToMatch, is_beginning, rules_with, commands_with, rule_of}
-use Rattle.ops_grammar.specs.Reads.{Read, Placed, verdict, read_lexed, reads}
+use Rattle.ops_grammar.specs.Words.{lexed, has_name, names_with, word_of, words_from, names_from, word_before, tokens_of}
+use Rattle.ops_grammar.specs.Grammar.{Use, Target, Ends, Column, TagUse, NameUse, Waiting, Wanted, State, Step, is_left, is_right, is_left_brace, is_right_brace, is_caret, is_name, is_variable, is_arrow, is_literal, is_minus, opens_choice, closes_choice, pred_of, constant_of, atom_of, value_of, small_of, is_one_of, number_of, may_declare, is_class, is_rule, form, class_declared, arranged, has_vector, with_class, is_second, attribute_declared, attributes, with_vector_last, with_vector, makes_second, vector_declared, vector_name, vector_names, class_at, class_name, attributes_of, field_at, attribute, with_test, with_put, with_fixed, with_item, with_bind, with_constant, with_bound, variable_tested, constant_tested, tested, predicated, test, place, tests, with_choice, chosen, choice, atom_at, term_at, bound_at, constant_at, is_of_action, value_for, most_brackets, no_formula, with_formula, completed, unit_bound, unit_at, expression_unit, bracketed, is_compute, operation_of, operation_at, expression_ended, expression_rest, function, source_named, source_cell, source_class, source_at, source_attribute, takes_several, ends_at_inf, source_end, with_action, with_command, with_condition, put_action, fixed_command, with_element, terms, within, one_of_several, with_several, several, rule_name, first_pattern, one_more, more_patterns, patterns, pattern, element_at, element_name, braced, closes_brace, classes_of_cells, with_rule, actions, action_word, cell_of, with_designated, with_modified, bound_name, bound_value, cell_bound, cell_name, cells, items, item_word, column_item, columns_at, ended, closes, count_of, counted, count, strategy_of, strategy_set, strategy_name, tag_at, is_all, tag_or_all, tag_command, tags, shown, named_rule, name_command, named_rules, level_of, undone_of, level_set, undone_set, level, undone, forms, step, Outcome, ends, after, goes, nothing_read, InPattern, InPut, InFixed, ToTest, ToPut, ToFixed, ToTerms, ToConstants, ToItem, ToBind, EndsHalt, EndsCrlf, EndsCs, EndsExit, EndsWhole, ToTab, ToRight, ToRemove, ToShow, ToPrint, ToBreak, Forms, Form, ClassDeclared, Attributes, VectorName, VectorNames, RuleName, FirstPattern, Patterns, Pattern, Braced, ElementName, ClosesBrace, ClassName, Terms, Attribute, Several, Place, Tests, Tested, Choice, Atom, ValueFor, Function, ExpressionUnit, ExpressionRest, Bracketed, SourceCell, SourceAttribute, SourceEnd, Actions, ActionWord, Modified, BoundName, BoundValue, CellName, Cell, Cells, Items, ItemWord, Columns, Count, StrategyName, TagOrAll, Tags, Shown, NamedRule, NamedRules, Level, Undone, Closes, Next, Refuses, begins_group, GroupBrace, Members, members, group, with_group, with_member, with_one, has_room, ToExcise, ToMatch, is_beginning, rules_with, commands_with, rule_of, Outer, counting, with_hole, with_choice_of, constant_by, build_ended, side_ended, build_word, built_name, BuiltName}
+use Rattle.ops_grammar.specs.Reads.{Read, Placed, verdict, reads, read_tokens}
 use Rattle.ops_base.specs.Symbols.{symbol_held, value_held, class_held, operand_held, part_held, condition_held, term_held, put_held, item_held, action_held, rule_held, fixed_held, command_held, is_held}
+use Rattle.ops_grammar.proofs.Constants.{constant_cases}
 use Rattle.ops_grammar.proofs.Lists.{all_push}
 
 -- ---- lists
@@ -62,6 +63,11 @@ all_map p f (x ∷ xs) kept h =
     let parts = and_parts (p x) (list_all p xs) h in and_from _ _ (kept x parts.0) (all_map p f xs kept parts.1)
 
 -- ---- what was read so far
+
+-- of the production around the one that is read
+abbrev pub around_held : ℕ → Option Outer → Bool
+around_held n None = true
+around_held n (Some o) = symbol_held n o.name && list_all (part_held n) o.conditions && list_all (action_held n) o.actions
 
 -- Each symbol of what was read so far is held among this many. Names of variables do not count, since no program keeps them.
 pub record AreHeld (n : ℕ) (s : State) : Type 0 where
@@ -82,6 +88,8 @@ pub record AreHeld (n : ℕ) (s : State) : Type 0 where
   pub members : list_all (condition_held n) s.members ≡ true
   pub actions : list_all (action_held n) s.actions ≡ true
   pub named : list_all (symbol_held n) s.named ≡ true
+  pub templates : list_all (rule_held n) s.templates ≡ true
+  pub around : around_held n s.outer ≡ true
 
 -- a step that goes on leaves them held
 abbrev Keeps : ℕ → Step → Type 0
@@ -120,14 +128,20 @@ module _ (n : ℕ) where
   bind_kept (Some m) s t h e = action_kept s (action.Bind m t) h e
   bind_kept None s t h e = let more = action_kept s (action.Bind s.variables t) h e in assumption more
 
+  counted_kept : (s : State) → AreHeld n s → AreHeld n (counting s)
+  counted_kept s h = assumption h
+
+  hole_kept : (s : State) (m : ℕ) → AreHeld n s → AreHeld n (with_hole s m)
+  hole_kept s m h = assumption h
+
   constant_kept : (t : Target) (s : State) (v : Value) → AreHeld n s → value_held n v ≡ true → AreHeld n (with_constant t s v)
-  constant_kept (ToTest f p) s v h e = test_kept s f p (operand.Constant v) false h e
-  constant_kept (ToPut f) s v h e = put_kept s f (term.Constant v) h e
+  constant_kept (ToTest f p) s v h e = counted_kept _ (test_kept s f p (operand.Constant v) false h e)
+  constant_kept (ToPut f) s v h e = counted_kept _ (put_kept s f (term.Constant v) h e)
   constant_kept (ToFixed f) s v h e = fixed_kept s f v h e
-  constant_kept ToTerms s v h e = term_kept s (term.Constant v) h e
+  constant_kept ToTerms s v h e = counted_kept _ (term_kept s (term.Constant v) h e)
   constant_kept ToConstants s v h e = assumption (all_push (value_held n) s.constants v h.constants e)
-  constant_kept ToItem s v h e = item_kept s (item.Print (term.Constant v)) h e
-  constant_kept ToBind s v h e = bind_kept (number_of s.variable s.values) s (term.Constant v) h e
+  constant_kept ToItem s v h e = counted_kept _ (item_kept s (item.Print (term.Constant v)) h e)
+  constant_kept ToBind s v h e = counted_kept _ (bind_kept (number_of s.variable s.values) s (term.Constant v) h e)
 
   -- ---- classes
 
@@ -313,13 +327,17 @@ module _ (n : ℕ) (w : Word) (named : symbol_held n w.name ≡ true) where
       let one : Test = record { field = f; pred = pred.Eq; operand = operand.Variable s.variables; binds = true } in
       assumption (all_push (λ (t : Test). operand_held n t.operand) s.tests one h.tests refl)
 
+  constant_word_keeps : (t : Target) (v : Value) (ws : List Wanted) (s : State) → value_held n v ≡ true → AreHeld n s → Keeps n (constant_by w.keyword (λ r. Next ws (with_constant t r v)) s)
+  constant_word_keeps t v ws s held h =
+      constant_cases w.keyword (λ r. Next ws (with_constant t r v)) s (Keeps n) (λ _. tt) (constant_kept n t s v h held) (λ variable m found. constant_kept n t (with_hole s m) v (hole_kept n s m h) held)
+
   variable_tested_keeps : (f : ℕ) (p : Pred) (o : Option ℕ) (name : Sym) (ws : List Wanted) (s : State) → AreHeld n s → Keeps n (variable_tested f p o name ws s)
   variable_tested_keeps f p (Some m) name ws s h = test_kept n s f p (operand.Variable m) false h refl
   variable_tested_keeps f pred.Eq None name ws s h = bound_kept s f name h
   variable_tested_keeps f _ None name ws s h = tt
 
   constant_tested_keeps : (f : ℕ) (p : Pred) (o : Option Value) (ws : List Wanted) (s : State) → IfSome o (λ v. value_held n v ≡ true) → AreHeld n s → Keeps n (constant_tested f p w o ws s)
-  constant_tested_keeps f p (Some v) ws s held h = constant_kept n (ToTest f p) s v h held
+  constant_tested_keeps f p (Some v) ws s held h = constant_word_keeps (ToTest f p) v ws s held h
   constant_tested_keeps f p None ws s held h =
       cond_both (is_variable w.kind) _ _ (Keeps n) (λ _. variable_tested_keeps f p (number_of w.name s.values) w.name ws s h) (λ _. tt)
 
@@ -342,8 +360,12 @@ module _ (n : ℕ) (w : Word) (named : symbol_held n w.name ≡ true) where
   tests_keeps : (f : ℕ) (ws : List Wanted) (s : State) → AreHeld n s → Keeps n (tests f w ws s)
   tests_keeps f ws s h = cond_both (is_right_brace w.kind) _ _ (Keeps n) (λ _. h) (λ _. one_test_keeps f (Tests f ∷ ws) s h)
 
-  chosen_keeps : (o : Option Value) (ws : List Wanted) (s : State) → IfSome o (λ v. value_held n v ≡ true) → AreHeld n s → Keeps n (chosen o ws s)
-  chosen_keeps (Some v) ws s held h = assumption (all_push (value_held n) s.choice v h.choice held)
+  chosen_keeps : (o : Option Value) (ws : List Wanted) (s : State) → IfSome o (λ v. value_held n v ≡ true) → AreHeld n s → Keeps n (chosen w.keyword o ws s)
+  chosen_keeps (Some v) ws s held h =
+      constant_cases w.keyword (λ r. Next ws (with_choice_of r v)) s (Keeps n) (λ _. tt) (more s h) (λ variable m found. more (with_hole s m) (hole_kept n s m h))
+    where
+      more : (r : State) → AreHeld n r → AreHeld n (with_choice_of r v)
+      more r k = assumption (all_push (value_held n) r.choice v k.choice held)
   chosen_keeps None ws s held h = tt
 
   choice_keeps : (f : ℕ) (ws : List Wanted) (s : State) → AreHeld n s → Keeps n (choice f w ws s)
@@ -351,8 +373,8 @@ module _ (n : ℕ) (w : Word) (named : symbol_held n w.name ≡ true) where
       cond_both (closes_choice w.keyword) _ _ (Keeps n) (λ _. choice_kept n s f h)
       (λ _. chosen_keeps (atom_of w.kind w.name) (Choice f ∷ ws) s (atom_held n w.kind w.name named) h)
 
-  atom_at_keeps : (t : Target) (o : Option Value) (ws : List Wanted) (s : State) → IfSome o (λ v. value_held n v ≡ true) → AreHeld n s → Keeps n (atom_at t o ws s)
-  atom_at_keeps t (Some v) ws s held h = constant_kept n t s v h held
+  atom_at_keeps : (t : Target) (o : Option Value) (ws : List Wanted) (s : State) → IfSome o (λ v. value_held n v ≡ true) → AreHeld n s → Keeps n (atom_at t w.keyword o ws s)
+  atom_at_keeps t (Some v) ws s held h = constant_word_keeps t v ws s held h
   atom_at_keeps t None ws s held h = tt
 
   -- ---- values
@@ -369,7 +391,7 @@ module _ (n : ℕ) (w : Word) (named : symbol_held n w.name ≡ true) where
   bound_at_keeps t None ws s h = tt
 
   constant_at_keeps : (t : Target) (o : Option Value) (ws : List Wanted) (s : State) → IfSome o (λ v. value_held n v ≡ true) → AreHeld n s → Keeps n (constant_at t w o ws s)
-  constant_at_keeps t (Some v) ws s held h = constant_kept n t s v h held
+  constant_at_keeps t (Some v) ws s held h = constant_word_keeps t v ws s held h
   constant_at_keeps t None ws s held h =
       cond_both (is_variable w.kind) _ _ (Keeps n) (λ _. bound_at_keeps t (number_of w.name s.values) ws s h) (λ _. tt)
 
@@ -512,19 +534,42 @@ module _ (n : ℕ) (w : Word) (named : symbol_held n w.name ≡ true) where
 
   -- ---- right sides
 
-  actions_keeps : (ws : List Wanted) (s : State) → AreHeld n s → Keeps n (actions w ws s)
-  actions_keeps ws s h =
-      cond_both (is_right w.kind) _ _ (Keeps n) (λ _. rule_kept n s w.past h) (λ _. cond_both (is_left w.kind) _ _ (Keeps n) (λ _. h) (λ _. tt))
+  template_kept : (o : Option Outer) (s : State) (past : ℕ) → around_held n o ≡ true → AreHeld n s → AreHeld n (build_ended o s (rule_of s past))
+  template_kept None s past e h = h
+  template_kept (Some o) s past e h =
+      let build : Action = action.Build (length s.templates) s.holes in
+      let whole = and_parts (symbol_held n o.name && list_all (part_held n) o.conditions) (list_all (action_held n) o.actions) e in
+      let front = and_parts (symbol_held n o.name) (list_all (part_held n) o.conditions) whole.0 in
+      let rule = and_from _ _ (and_from _ _ h.name h.conditions) h.actions in
+      let templates = all_push (rule_held n) s.templates (rule_of s past) h.templates rule in
+      let actions = all_push (action_held n) o.actions build whole.1 refl in
+      assumption (refl, templates, actions, front.0, front.1, h)
 
-  action_word_keeps : (k : Keyword) (ws : List Wanted) (s : State) → AreHeld n s → Keeps n (action_word k ws s)
-  action_word_keeps keyword.Make ws s h = assumption (refl, h)
-  action_word_keeps keyword.Modify ws s h = assumption (refl, h)
-  action_word_keeps keyword.Bind ws s h = h
-  action_word_keeps keyword.Cbind ws s h = h
-  action_word_keeps keyword.Remove ws s h = assumption h
-  action_word_keeps keyword.Write ws s h = assumption (refl, h)
-  action_word_keeps keyword.Halt ws s h = h
-  action_word_keeps _ ws s h = tt
+  side_kept : (b : Bool) (s : State) (past : ℕ) → AreHeld n s → AreHeld n (side_ended b s past)
+  side_kept false s past h = rule_kept n s past h
+  side_kept true s past h = template_kept s.outer s past h.around h
+
+  actions_keeps : (b : Bool) (ws : List Wanted) (s : State) → AreHeld n s → Keeps n (actions b w ws s)
+  actions_keeps b ws s h =
+      cond_both (is_right w.kind) _ _ (Keeps n) (λ _. side_kept b s w.past h) (λ _. cond_both (is_left w.kind) _ _ (Keeps n) (λ _. assumption h) (λ _. tt))
+
+  build_keeps : (b : Bool) (ws : List Wanted) (s : State) → AreHeld n s → Keeps n (build_word b ws s)
+  build_keeps true ws s h = tt
+  build_keeps false ws s h = let around = and_from _ _ (and_from _ _ h.name h.conditions) h.actions in assumption (refl, around, h)
+
+  built_name_keeps : (ws : List Wanted) (s : State) → AreHeld n s → Keeps n (built_name w ws s)
+  built_name_keeps ws s h = cond_both (is_name w.kind) _ _ (Keeps n) (λ _. assumption (named, h)) (λ _. tt)
+
+  action_word_keeps : (b : Bool) (k : Keyword) (ws : List Wanted) (s : State) → AreHeld n s → Keeps n (action_word b k ws s)
+  action_word_keeps b keyword.Make ws s h = assumption (refl, h)
+  action_word_keeps b keyword.Modify ws s h = assumption (refl, h)
+  action_word_keeps b keyword.Bind ws s h = h
+  action_word_keeps b keyword.Cbind ws s h = h
+  action_word_keeps b keyword.Remove ws s h = assumption h
+  action_word_keeps b keyword.Write ws s h = assumption (refl, h)
+  action_word_keeps b keyword.Halt ws s h = h
+  action_word_keeps b keyword.Build ws s h = build_keeps b ws s h
+  action_word_keeps b _ ws s h = tt
 
   designated_keeps : (r : Result ℕ Fault) (ws : List Wanted) (s : State) → AreHeld n s → Keeps n (with_designated r ws s)
   designated_keeps (Ok c) ws s h = assumption h
@@ -697,8 +742,9 @@ module _ (n : ℕ) (w : Word) (named : symbol_held n w.name ≡ true) where
   step_keeps (SourceCell ∷ ws) s h = source_cell_keeps ws s h
   step_keeps (SourceAttribute t ∷ ws) s h = source_attribute_keeps t ws s h
   step_keeps (SourceEnd t name ∷ ws) s h = source_end_keeps t name ws s h
-  step_keeps (Actions ∷ ws) s h = actions_keeps ws s h
-  step_keeps (ActionWord ∷ ws) s h = action_word_keeps w.keyword ws s h
+  step_keeps (Actions b ∷ ws) s h = actions_keeps b ws s h
+  step_keeps (ActionWord b ∷ ws) s h = action_word_keeps b w.keyword ws s h
+  step_keeps (BuiltName ∷ ws) s h = built_name_keeps ws s h
   step_keeps (Modified ∷ ws) s h = modified_keeps (cell_of w.kind w.name s) ws s h
   step_keeps (BoundName ∷ ws) s h = bound_name_keeps ws s h
   step_keeps (BoundValue ∷ ws) s h = bound_value_keeps ws s h
@@ -752,12 +798,12 @@ names_grow_on text names (t ∷ ts) =
 
 -- what was read is held
 abbrev IsDone : ℕ → Outcome → Type 0
-IsDone n (Ok s) = is_held n s.classes s.rules [] s.commands ≡ true
+IsDone n (Ok s) = is_held n s.classes s.rules s.templates s.commands ≡ true
 IsDone n (Err e) = Unit {0}
 
 ends_held : (n : ℕ) (ws : List Wanted) (s : State) → AreHeld n s → IsDone n (ends ws s)
 unfolding ends
-ends_held n [] s h = and_from _ _ (and_from _ _ (and_from _ _ h.classes h.rules) refl) h.commands
+ends_held n [] s h = and_from _ _ (and_from _ _ (and_from _ _ h.classes h.rules) h.templates) h.commands
 ends_held n (Forms ∷ ws) s h = ends_held n ws s h
 ends_held n (w ∷ ws) s h = tt
 
@@ -770,7 +816,7 @@ unfolding goes
 goes_held source names [] n ws s some le h = ends_held n ws s h
 goes_held source names (t ∷ ts) n ws s some le h =
     let names' = names_with names t.kind (spelling source t) in
-    let w = word_before (word_of names t (spelling source t)) ts in
+    let w = word_before (word_of source names t) ts in
     let lt : w.name.0 < length names'.held = name_held names (has_name t.kind) (spelling source t) some in
     let grown = names_grow names t.kind (spelling source t) in
     let others = names_grow_on source names' ts in
@@ -782,23 +828,23 @@ goes_held source names (t ∷ ts) n ws s some le h =
 nothing_held : (n : ℕ) → 0 < n → AreHeld n nothing_read
 nothing_held n some = assumption (refl, lt-ltb 0 n some)
 
-verdict_held : (text : ℕ) (names : Spellings) (stop : Option LexFault) (o : Outcome) (r : Read) → IsDone (length names.held) o → verdict text names stop o ≡ Ok r → is_held (length r.names.held) r.classes r.rules [] r.commands ≡ true
+verdict_held : (text : ℕ) (names : Spellings) (stop : Option LexFault) (o : Outcome) (r : Read) → IsDone (length names.held) o → verdict text names stop o ≡ Ok r → is_held (length r.names.held) r.classes r.rules r.templates r.commands ≡ true
 verdict_held text names stop (Err (f, Some w)) r done e = absurd (cc)
 verdict_held text names stop (Err (f, None)) r done e = absurd (cc)
 verdict_held text names (Some f) (Ok s) r done e = absurd (cc)
 verdict_held text names None (Ok s) r done e =
-    let same : record { classes = s.classes; rules = s.rules; commands = s.commands; names = names } ≡ r = cc in
-    ap (λ (q : Read). is_held (length q.names.held) q.classes q.rules [] q.commands) (sym same) ∙ done
+    let same : record { classes = s.classes; rules = s.rules; templates = s.templates; commands = s.commands; names = names } ≡ r = cc in
+    ap (λ (q : Read). is_held (length q.names.held) q.classes q.rules q.templates q.commands) (sym same) ∙ done
 
-by_length : (text : List ℕ) (r : Read) (long : Bool) → (let x : Result Read Placed = cond long (Err (record { fault = fault.TooLong; at = 0 })) (read_lexed text (lexed text)) in x ≡ Ok r) → is_held (length r.names.held) r.classes r.rules [] r.commands ≡ true
+by_length : (text : List ℕ) (r : Read) (long : Bool) → (let x : Result Read Placed = cond long (Err (record { fault = fault.TooLong; at = 0 })) (read_tokens text (lexed text).stop (tokens_of text)) in x ≡ Ok r) → is_held (length r.names.held) r.classes r.rules r.templates r.commands ≡ true
 by_length text r true e = absurd (cc)
 by_length text r false e =
-    let names = names_from text only_nil (lexed text).tokens in
-    let grown = names_grow_on text only_nil (lexed text).tokens in
-    verdict_held (length text) names (lexed text).stop (goes (words_from text only_nil (lexed text).tokens) (Forms ∷ []) nothing_read) r
-    (goes_held text only_nil (lexed text).tokens (length names.held) (Forms ∷ []) nothing_read (omega arith) (omega arith) (nothing_held (length names.held) (omega (arith, grown))))
+    let names = names_from text only_nil (tokens_of text) in
+    let grown = names_grow_on text only_nil (tokens_of text) in
+    verdict_held (length text) names (lexed text).stop (goes (words_from text only_nil (tokens_of text)) (Forms ∷ []) nothing_read) r
+    (goes_held text only_nil (tokens_of text) (length names.held) (Forms ∷ []) nothing_read (omega arith) (omega arith) (nothing_held (length names.held) (omega (arith, grown))))
     e
 
-pub reads-held : (text : List ℕ) (r : Read) → reads text ≡ Ok r → is_held (length r.names.held) r.classes r.rules [] r.commands ≡ true
+pub reads-held : (text : List ℕ) (r : Read) → reads text ≡ Ok r → is_held (length r.names.held) r.classes r.rules r.templates r.commands ≡ true
 unfolding reads
 reads-held text r e = by_length text r (nat_lt longest_list (length text)) e

@@ -1,30 +1,34 @@
 -- A program that is spelled is read back.
-use Rattle.std.proofs.Common.{◌≡◌, ℕ, zero, suc, ◌≤◌, Bool, true, false, not, ◌||◌, ◌==◌, List, [], ◌∷◌, ◌++◌, length, map, refl, sym, ap, subst, ◌∙◌, Some, None, Ok, nat_lt, nat_le, append-nil, append_assoc, true≢false}
+use Rattle.std.proofs.Common.{◌≡◌, ℕ, zero, suc, ◌+◌, Bool, true, false, not, ◌||◌, ◌==◌, List, [], ◌∷◌, ◌++◌, length, take, map, refl, sym, ap, subst, ◌∙◌, Some, None, Ok, nat_lt, append-nil, append_assoc, length-append, arith, true≢false}
 use Rattle.std.specs.Prelude.{if◌then◌else◌}
 use Rattle.std.specs.List.{list_all, list_any}
-use Rattle.std.proofs.lemmas.Bool.{and_parts, or_left, or_right, ltb-true, leb-true, eqb-true, eq-eqb, not-true}
+use Rattle.std.proofs.lemmas.Bool.{and_parts, and_from, or_left, or_right, ltb-true, eqb-true, eq-eqb}
+use Rattle.std.proofs.lemmas.List.{take_all}
 use Rattle.std.proofs.lemmas.List.Folds.{list_any-append}
 use Rattle.ops_base.specs.declared.values.Sym.{Sym}
 use Rattle.ops_base.specs.declared.elements.Class.{Class}
-use Rattle.ops_base.specs.declared.conditions.Part.{Part}
-use Rattle.ops_base.specs.declared.conditions.Part.TheVariants.{One, Group}
+use Rattle.ops_base.specs.declared.actions.Action.{Action}
+use Rattle.ops_base.specs.declared.actions.Action.TheVariants as action
 use Rattle.ops_base.specs.declared.rules.Rule.{Rule}
+use Rattle.ops_base.specs.Filling.{in_part, total}
 use Rattle.ops_base.specs.declared.commands.Command.{Command}
 use Rattle.ops_base.specs.declared.commands.Command.TheVariants as command
-use Rattle.ops_base.specs.Valid.{most_conditions, are_distinct, class_of, class_is_valid, first_is_positive, is_natural, cells_of, specificity, fixed_is_valid, elements_of}
+use Rattle.ops_base.specs.Valid.{are_distinct, class_of, class_is_valid, is_natural, fixed_is_valid}
 use Rattle.ops_grammar.specs.declared.words.Word.{Word}
 use Rattle.ops_grammar.specs.declared.words.Named.{Named}
 use Rattle.ops_grammar.specs.declared.words.Keyword.TheVariants as keyword
-use Rattle.ops_grammar.specs.Grammar.{Wanted, Forms, FirstPattern, Patterns, Actions, State, Outcome, is_one_of, no_formula, left_begun, left_ended, right_begun, step, is_rule, with_rule, ends, goes, precedes_rules, added, added_by, has_title, rules_with, commands_with}
+use Rattle.ops_grammar.specs.Grammar.{Wanted, Forms, FirstPattern, Patterns, Actions, State, Outcome, is_one_of, no_formula, left_begun, step, is_rule, ends, goes, precedes_rules, added, added_by, has_title, rules_with, commands_with}
 use Rattle.ops_grammar.specs.Standing.{outcome_of, AreRead}
-use Rattle.ops_grammar.specs.Spelling.{opening, closing, arrow, spelled_keyword, spelled_name, spelled_each, spelled_class, attribute_name, last_field, spelled_vector, spelled_actions, spelled_condition, spelled_conditions, spelled_rule, spelled_command, spelled_program, at_arrow, after_actions, actions_are_plain, nothing_numbered, after_condition, condition_is_plain, conditions_are_plain, after_conditions, rule_is_plain, vectors_of, scalars_of, class_is_plain, command_is_plain, is_plain, titles_are_distinct, adds_late}
+use Rattle.ops_grammar.specs.Spelling.{opening, closing, arrow, spelled_keyword, spelled_name, spelled_each, spelled_class, attribute_name, last_field, spelled_vector, spelled_actions, spelled_conditions, spelled_build, spelled_rule, spelled_command, spelled_program, at_arrow, after_actions, nothing_numbered, after_conditions, rule_is_plain, vectors_of, scalars_of, class_is_plain, command_is_plain, is_plain, titles_are_distinct, adds_late, build_is_plain, template_of, templates_in, templates_by, are_next, builds_in_order}
 use Rattle.ops_grammar.proofs.Lists.{all_weaker}
 use Rattle.ops_grammar.proofs.Places.{numbered}
-use Rattle.ops_grammar.proofs.Numbering.{after_condition-given, below}
+use Rattle.ops_grammar.proofs.Numbering.{below}
 use Rattle.ops_grammar.proofs.ReadsBack.{apart_before, vector-read, IsUnder, class-read}
 use Rattle.ops_grammar.proofs.ReadsFacts.{AreNamed, fact-read, shown-read, all_shown-read, remove-read, remove_all-read, wm-read, pm-read, pbreak-read, run-read, run_so_often-read, strategy-read, watch-read, watch_at-read, back-read, cs-read, exit-read, excise-read, matches-read}
-use Rattle.ops_grammar.proofs.ReadsRight.{Trail, acted, actions-read}
-use Rattle.ops_grammar.proofs.ReadsRules.{Left, left_after, left_behind, matched, cells_behind, first-read, conditions-read}
+use Rattle.ops_grammar.proofs.Holed.{none_held}
+use Rattle.ops_grammar.proofs.ReadsRight.{made_after, made_behind}
+use Rattle.ops_grammar.proofs.ReadsRules.{left_behind, matched}
+use Rattle.ops_grammar.proofs.ReadsSides.{at_rule, rule_parts, sides-read, rule_numbers, build-read}
 use Rattle.ops_grammar.proofs.Added.{title, distinct_front, late_at}
 use Rattle.std.proofs.lemmas.Grind.{flat_map-append}
 
@@ -40,11 +44,12 @@ pub record Rest : Type 0 where
   pub shows : Bool
 
 -- where no form is open
-abbrev pub idle : Rest → List Class → List Rule → List Command → State
-idle rest classes rules commands =
+abbrev pub idle : Rest → List Class → List Rule → List Rule → List Command → State
+idle rest classes rules templates commands =
     record {
       classes = classes;
       rules = rules;
+      templates = templates;
       commands = commands;
       vectors = rest.vectors;
       name = rest.name;
@@ -69,6 +74,7 @@ idle rest classes rules commands =
       members = [];
       conditions = [];
       actions = [];
+      begun = 0;
       modified = None;
       made = None;
       further = [];
@@ -76,6 +82,9 @@ idle rest classes rules commands =
       source = 0;
       source_field = 0;
       formula = no_formula;
+      counted = 0;
+      holes = [];
+      outer = None;
       shows = rest.shows;
       tags = [];
       named = [];
@@ -83,17 +92,9 @@ idle rest classes rules commands =
 
 -- ---- a production
 
--- what the conditions of a rule find
-abbrev at_rule : Left
-at_rule = record { class = 0; around = 0; element = record { 0 = 0 }; cell = 0 }
-
--- and what its actions find
-abbrev at_actions : Trail
-at_actions = record { class = 0; modified = None; variable = record { 0 = 0 }; further = []; source = 0; source_field = 0 }
-
 abbrev after_rule : Rest → Rule → Rest
 after_rule rest r =
-    let to = after_actions (at_arrow r.conditions) r.actions in
+    let to = after_actions (at_arrow false r.conditions) r.actions in
     record {
       name = r.name;
       first = r.first;
@@ -107,79 +108,41 @@ after_rule rest r =
 
 rule_begun : (r : Rule) (words : List Word) (ws : List Wanted) (s : State) → is_rule s r.name ≡ false
     → goes (record opening { first = r.first } ∷ spelled_keyword keyword.Production ∷ spelled_name r.name ∷ words) (Forms ∷ ws) s
-    ≡ goes words (FirstPattern ∷ Patterns ∷ Actions ∷ Forms ∷ ws) (record (left_begun s) { first = r.first; name = r.name })
+    ≡ goes words (FirstPattern ∷ Patterns ∷ Actions false ∷ Forms ∷ ws) (record (left_begun s) { first = r.first; name = r.name })
 unfolding goes step
 rule_begun r words ws s new = rw new refl
 
-arrow_read : (words : List Word) (ws : List Wanted) (s : State) → goes (arrow ∷ words) (Patterns ∷ ws) s ≡ goes words ws (right_begun (left_ended s))
-unfolding goes step
-arrow_read words ws s = refl
-
-rule_closed : (past : ℕ) (words : List Word) (ws : List Wanted) (s : State) → goes (record closing { past = past } ∷ words) (Actions ∷ ws) s ≡ goes words ws (with_rule s past)
-unfolding goes step
-rule_closed past words ws s = refl
-
-module _ (classes : List Class) (rules : List Rule) (commands : List Command) (more : List Word) (ws : List Wanted) (names : AreNamed classes) where
+module _ (classes : List Class) (rules all : List Rule) (m : ℕ) (commands : List Command) (more : List Word) (ws : List Wanted) (names : AreNamed classes) where
   -- where the rule's parts are wanted
   abbrev begun : Rest → Rule → State
-  begun rest r = record (left_begun (idle rest classes rules commands)) { first = r.first; name = r.name }
-
-  left_read : (r : Rule) (rest : Rest) (cs : List Part) (words : List Word) → first_is_positive cs ≡ true → length (elements_of cs) ≤ most_conditions → conditions_are_plain classes nothing_numbered cs ≡ true
-      → goes (spelled_conditions classes 0 cs ++ words) (FirstPattern ∷ Patterns ∷ Actions ∷ Forms ∷ ws) (begun rest r)
-      ≡ goes words (Patterns ∷ Actions ∷ Forms ∷ ws) (matched (begun rest r) (left_behind at_rule nothing_numbered cs) (after_conditions nothing_numbered cs) cs)
-  left_read r rest [] words positive few plain = absurd (true≢false (sym positive))
-  left_read r rest (Group ms ∷ cs) words positive few plain = absurd (true≢false (sym positive))
-  left_read r rest (One c ∷ cs) words positive few plain =
-      let each = and_parts (condition_is_plain classes nothing_numbered c) (conditions_are_plain classes (after_condition nothing_numbered c) cs) plain in
-      let after : Left = left_after at_rule nothing_numbered c in
-      let others = spelled_conditions classes after.cell cs in
-      let wanted : List Wanted = Patterns ∷ Actions ∷ Forms ∷ ws in
-      ap (λ (x : List Word). goes x (FirstPattern ∷ wanted) (begun rest r)) (append_assoc (spelled_condition classes 0 c) others words)
-      ∙ first-read c.class c.tests (others ++ words) wanted (begun rest r) at_rule nothing_numbered [] names refl c.negated (not-true _ positive) refl each.0
-      ∙ conditions-read cs words (Actions ∷ Forms ∷ ws) (begun rest r) after (after_condition nothing_numbered c) (One c ∷ []) names (after_condition-given nothing_numbered c refl) (cells_behind (One c ∷ []) at_rule nothing_numbered [] refl) few each.1
+  begun rest r = record (left_begun (idle rest classes rules (take m all) commands)) { first = r.first; name = r.name }
 
   -- The production stands with the others, or it is added.
   abbrev behind : Rule → Rest → Rule → Outcome
   behind r rest one =
       let begins = list_all precedes_rules commands in
-      goes more (Forms ∷ ws) (idle (after_rule rest r) classes (rules_with begins rules one) (commands_with begins commands one))
-
-  abbrev whole : Rule → Rest → ℕ → ℕ → ℕ → Outcome
-  whole r rest v p c = behind r rest (record { name = r.name; conditions = r.conditions; actions = r.actions; specificity = p; variables = v; cells = c; first = r.first; past = r.past })
+      goes more (Forms ∷ ws) (idle (after_rule rest r) classes (rules_with begins rules one) (take (made_behind m r.actions) all) (commands_with begins commands one))
 
   -- A production is read back.
-  pub rule-read : (r : Rule) (rest : Rest) → is_rule (idle rest classes rules commands) r.name ≡ false → rule_is_plain classes r ≡ true
-      → goes (spelled_rule classes r ++ more) (Forms ∷ ws) (idle rest classes rules commands) ≡ behind r rest r
-  rule-read r rest new plain =
-      let k = after_conditions nothing_numbered r.conditions in
-      let l : Left = left_behind at_rule nothing_numbered r.conditions in
-      let from = at_arrow r.conditions in
-      let to = after_actions from r.actions in
-      let cells = length to.cells in
-      let p1 = and_parts _ (r.cells == cells) plain in
-      let p2 = and_parts _ (r.specificity == specificity r.conditions) p1.0 in
-      let p3 = and_parts _ (r.variables == to.variables.given) p2.0 in
-      let p4 = and_parts _ (actions_are_plain classes from r.actions) p3.0 in
-      let p5 = and_parts _ (conditions_are_plain classes nothing_numbered r.conditions) p4.0 in
-      let p6 = and_parts (first_is_positive r.conditions) (nat_le (length (elements_of r.conditions)) most_conditions) p5.0 in
-      let left = spelled_conditions classes 0 r.conditions in
-      let right = spelled_actions classes from r.actions in
+  pub rule-read : (r : Rule) (rest : Rest) → is_rule (idle rest classes rules (take m all) commands) r.name ≡ false → rule_is_plain classes all r ≡ true → are_next m (templates_in r.actions) ≡ true
+      → goes (spelled_rule classes all r ++ more) (Forms ∷ ws) (idle rest classes rules (take m all) commands) ≡ behind r rest r
+  rule-read r rest new plain next =
+      let builds = build_is_plain classes all in
+      let build = spelled_build classes all in
+      let is = rule_parts builds false classes r plain in
+      let from : State = begun rest r in
+      let n = total in_part r.conditions in
+      let body : State = matched from [] n (left_behind at_rule nothing_numbered r.conditions) (after_conditions nothing_numbered r.conditions) r.conditions in
+      let both = sides-read build builds [] false all m from (none_held None) names refl refl (λ k i gs e. refl) r more (Forms ∷ ws) (build-read all body names) is next in
+      let left = spelled_conditions [] 0 classes 0 r.conditions in
+      let right = spelled_actions build [] classes (at_arrow false r.conditions) n r.actions in
       let end : Word = record closing { past = r.past } in
-      let body : State = matched (begun rest r) l k r.conditions in
-      let acts = actions-read r.actions at_actions from (end ∷ more) (Forms ∷ ws) (left_ended body) [] names (sym (append-nil (cells_of r.conditions))) p4.1 in
-      let counted : length (cells_of r.conditions ++ acts.0.further) ≡ cells = ap (λ (xs : List ℕ). length xs) (sym acts.1) in
       let head : List Word = record opening { first = r.first } ∷ spelled_keyword keyword.Production ∷ spelled_name r.name ∷ left in
-      ap (λ (x : List Word). goes x (Forms ∷ ws) (idle rest classes rules commands)) (append_assoc (head ++ arrow ∷ right) (end ∷ []) more ∙ append_assoc head (arrow ∷ right) (end ∷ more))
-      ∙ rule_begun r (left ++ (arrow ∷ right ++ (end ∷ more))) ws (idle rest classes rules commands) new
-      ∙ left_read r rest r.conditions (arrow ∷ right ++ (end ∷ more)) p6.0 (leb-true _ _ p6.1) p5.1
-      ∙ arrow_read (right ++ (end ∷ more)) (Actions ∷ Forms ∷ ws) body
-      ∙ ap (λ (n : ℕ). goes (right ++ (end ∷ more)) (Actions ∷ Forms ∷ ws) (record (right_begun (left_ended body)) { elements = numbered (below n) })) (sym (cells_behind r.conditions at_rule nothing_numbered [] refl))
-      ∙ acts.2
-      ∙ rule_closed r.past more (Forms ∷ ws) (acted (left_ended body) acts.0 to r.actions)
-      ∙ ap (λ (n : ℕ). whole r rest to.variables.given (specificity r.conditions) n) counted
-      ∙ ap (λ (n : ℕ). whole r rest n (specificity r.conditions) cells) (sym (eqb-true r.variables _ p3.1))
-      ∙ ap (λ (n : ℕ). whole r rest r.variables n cells) (sym (eqb-true r.specificity _ p2.1))
-      ∙ ap (λ (n : ℕ). whole r rest r.variables r.specificity n) (sym (eqb-true r.cells _ p1.1))
+      let words = left ++ (arrow ∷ right ++ (end ∷ more)) in
+      ap (λ (x : List Word). goes x (Forms ∷ ws) (idle rest classes rules (take m all) commands)) (append_assoc (head ++ arrow ∷ right) (end ∷ []) more ∙ append_assoc head (arrow ∷ right) (end ∷ more))
+      ∙ rule_begun r words ws (idle rest classes rules (take m all) commands) new
+      ∙ both.2
+      ∙ ap (λ (q : Rule). behind r rest q) (rule_numbers builds false classes r both.0.further is both.1)
 
 -- ---- lists of forms
 
@@ -190,9 +153,9 @@ named_classes vectors (c ∷ cs) plain zero =
     (and_parts (class_is_valid c) (list_all (λ a. not (is_one_of a vectors)) (scalars_of c)) here.0).0
 named_classes vectors (c ∷ cs) plain (suc i) = named_classes vectors cs (and_parts (class_is_plain vectors c) (list_all (class_is_plain vectors) cs) plain).1 i
 
-abbrev Reads : List Word → Rest → List Class → List Rule → List Command → List Class → List Rule → List Command → Type 0
-Reads words rest classes rules commands classes' rules' commands' =
-    (rest' : Rest) × ((more : List Word) → goes (words ++ more) (Forms ∷ []) (idle rest classes rules commands) ≡ goes more (Forms ∷ []) (idle rest' classes' rules' commands'))
+abbrev Reads : List Word → Rest → List Class → List Rule → List Rule → List Command → List Class → List Rule → List Rule → List Command → Type 0
+Reads words rest classes rules templates commands classes' rules' templates' commands' =
+    (rest' : Rest) × ((more : List Word) → goes (words ++ more) (Forms ∷ []) (idle rest classes rules templates commands) ≡ goes more (Forms ∷ []) (idle rest' classes' rules' templates' commands'))
 
 or_none : (x : Bool) → (x || false) ≡ x
 or_none true = refl
@@ -217,19 +180,19 @@ module _ (name n : Sym) (vectors names : List Sym) where
 
 -- A name of a vector attribute is read back, where the class has one.
 one_vector_read : (v : Bool) (name : Sym) (rest : Rest)
-    → (rest' : Rest) × ((more : List Word) → goes ((if v then opening ∷ spelled_keyword keyword.VectorAttribute ∷ spelled_name name ∷ closing ∷ [] else []) ++ more) (Forms ∷ []) (idle rest [] [] []) ≡ goes more (Forms ∷ []) (idle rest' [] [] []))
+    → (rest' : Rest) × ((more : List Word) → goes ((if v then opening ∷ spelled_keyword keyword.VectorAttribute ∷ spelled_name name ∷ closing ∷ [] else []) ++ more) (Forms ∷ []) (idle rest [] [] [] []) ≡ goes more (Forms ∷ []) (idle rest' [] [] [] []))
     × ((n : Sym) (names : List Sym) → (is_one_of n rest'.vectors || is_one_of n names) ≡ (is_one_of n rest.vectors || is_one_of n (if v then name ∷ names else names)))
 one_vector_read false name rest = (rest, λ more. refl, λ n names. refl)
 one_vector_read true name rest =
     let b = is_one_of name rest.vectors in (
       record rest { first = 0; vectors = if b then rest.vectors else rest.vectors ++ name ∷ [] },
-      λ more. vector-read b name more [] (idle rest [] [] []) refl refl,
+      λ more. vector-read b name more [] (idle rest [] [] [] []) refl refl,
       λ n names. told_more name n rest.vectors names b refl,
     )
 
 -- The names of the vector attributes are read back.
 vectors_read : (cs : List Class) (rest : Rest)
-    → (rest' : Rest) × ((more : List Word) → goes (spelled_each spelled_vector cs ++ more) (Forms ∷ []) (idle rest [] [] []) ≡ goes more (Forms ∷ []) (idle rest' [] [] []))
+    → (rest' : Rest) × ((more : List Word) → goes (spelled_each spelled_vector cs ++ more) (Forms ∷ []) (idle rest [] [] [] []) ≡ goes more (Forms ∷ []) (idle rest' [] [] [] []))
     × ((n : Sym) → is_one_of n rest'.vectors ≡ (is_one_of n rest.vectors || is_one_of n (vectors_of cs)))
 vectors_read [] rest = (rest, λ more. refl, λ n. sym (or_none (is_one_of n rest.vectors)))
 vectors_read (c ∷ cs) rest =
@@ -237,7 +200,7 @@ vectors_read (c ∷ cs) rest =
     let behind = vectors_read cs first.0 in
     let others = spelled_each spelled_vector cs in (
       behind.0,
-      λ more. ap (λ (x : List Word). goes x (Forms ∷ []) (idle rest [] [] [])) (append_assoc (spelled_vector c) others more) ∙ first.1 (others ++ more) ∙ behind.1 more,
+      λ more. ap (λ (x : List Word). goes x (Forms ∷ []) (idle rest [] [] [] [])) (append_assoc (spelled_vector c) others more) ∙ first.1 (others ++ more) ∙ behind.1 more,
       λ n. behind.2 n ∙ first.2 n (vectors_of cs),
     )
 
@@ -251,8 +214,8 @@ vector_behind false name n names there = there
 
 classes_read : (cs done : List Class) (rest : Rest) (vectors : List Sym) → ((n : Sym) → is_one_of n rest.vectors ≡ is_one_of n vectors) → ((n : Sym) → is_one_of n (vectors_of cs) ≡ true → is_one_of n vectors ≡ true)
     → list_all (class_is_plain vectors) cs ≡ true → are_distinct (map (λ c. c.name.0) (done ++ cs)) ≡ true
-    → Reads (spelled_each spelled_class cs) rest done [] [] (done ++ cs) [] []
-classes_read [] done rest vectors told there plain distinct = (rest, λ more. ap (λ (xs : List Class). goes more (Forms ∷ []) (idle rest xs [] [])) (sym (append-nil done)))
+    → Reads (spelled_each spelled_class cs) rest done [] [] [] (done ++ cs) [] [] []
+classes_read [] done rest vectors told there plain distinct = (rest, λ more. ap (λ (xs : List Class). goes more (Forms ∷ []) (idle rest xs [] [] [])) (sym (append-nil done)))
 classes_read (c ∷ cs) done rest vectors told there plain distinct =
     let each = and_parts (class_is_plain vectors c) (list_all (class_is_plain vectors) cs) plain in
     let parts = and_parts (class_is_valid c) (list_all (λ a. not (is_one_of a vectors)) (scalars_of c)) each.0 in
@@ -268,26 +231,96 @@ classes_read (c ∷ cs) done rest vectors told there plain distinct =
     (subst (λ (xs : List Class). are_distinct (map (λ c. c.name.0) xs) ≡ true) (sym all) distinct) in (
       behind.0,
       λ more.
-          ap (λ (x : List Word). goes x (Forms ∷ []) (idle rest done [] [])) (append_assoc (spelled_class c) others more)
-          ∙ class-read c (others ++ more) [] (idle rest done [] []) refl (apart_before (λ (c : Class). c.name.0) done c cs distinct) parts.0 under
+          ap (λ (x : List Word). goes x (Forms ∷ []) (idle rest done [] [] [])) (append_assoc (spelled_class c) others more)
+          ∙ class-read c (others ++ more) [] (idle rest done [] [] []) refl (apart_before (λ (c : Class). c.name.0) done c cs distinct) parts.0 under
           ∙ behind.1 more
-          ∙ ap (λ (xs : List Class). goes more (Forms ∷ []) (idle behind.0 xs [] [])) all,
+          ∙ ap (λ (xs : List Class). goes more (Forms ∷ []) (idle behind.0 xs [] [] [])) all,
     )
 
-rules_read : (classes : List Class) (rs done : List Rule) (rest : Rest) → AreNamed classes → list_all (rule_is_plain classes) rs ≡ true → are_distinct (map (λ r. r.name.0) (done ++ rs)) ≡ true
-    → Reads (spelled_each (spelled_rule classes) rs) rest classes done [] classes (done ++ rs) []
-rules_read classes [] done rest names plain distinct = (rest, λ more. ap (λ (xs : List Rule). goes more (Forms ∷ []) (idle rest classes xs [])) (sym (append-nil done)))
-rules_read classes (r ∷ rs) done rest names plain distinct =
-    let each = and_parts (rule_is_plain classes r) (list_all (rule_is_plain classes) rs) plain in
-    let all : done ++ r ∷ [] ++ rs ≡ done ++ r ∷ rs = append_assoc done (r ∷ []) rs in
-    let others = spelled_each (spelled_rule classes) rs in
-    let behind = rules_read classes rs (done ++ r ∷ []) (after_rule rest r) names each.1 (subst (λ (xs : List Rule). are_distinct (map (λ r. r.name.0) xs) ≡ true) (sym all) distinct) in (
+-- ---- how many templates are read
+
+abbrev made_rules : ℕ → List Rule → ℕ
+made_rules m [] = m
+made_rules m (r ∷ rs) = made_rules (made_behind m r.actions) rs
+
+abbrev made_command : ℕ → Command → ℕ
+made_command m (command.Add r) = made_behind m r.actions
+made_command m _ = m
+
+abbrev made_commands : ℕ → List Command → ℕ
+made_commands m [] = m
+made_commands m (c ∷ cs) = made_commands (made_command m c) cs
+
+one_count : (m : ℕ) (a : Action) → made_after m a ≡ m + length (template_of a)
+one_count m (action.Make class puts) = omega arith
+one_count m (action.Modify cell puts) = omega arith
+one_count m (action.Remove cells) = omega arith
+one_count m (action.Write items) = omega arith
+one_count m (action.Bind variable x) = omega arith
+one_count m (action.Cbind cell) = omega arith
+one_count m action.Halt = omega arith
+one_count m (action.Build template holes) = omega arith
+
+actions_count : (m : ℕ) (xs : List Action) → made_behind m xs ≡ m + length (templates_in xs)
+actions_count m [] = omega arith
+actions_count m (a ∷ xs) = omega (arith, one_count m a, actions_count (made_after m a) xs, length-append (template_of a) (templates_in xs))
+
+rules_count : (m : ℕ) (rs : List Rule) → made_rules m rs ≡ m + length (templates_by rs)
+rules_count m [] = omega arith
+rules_count m (r ∷ rs) = omega (arith, actions_count m r.actions, rules_count (made_behind m r.actions) rs, length-append (templates_in r.actions) (templates_by rs))
+
+commands_count : (m : ℕ) (cs : List Command) → made_commands m cs ≡ made_rules m (added_by cs)
+commands_count m [] = refl
+commands_count m (command.Add r ∷ cs) = commands_count (made_behind m r.actions) cs
+commands_count m (command.Make class puts ∷ cs) = commands_count m cs
+commands_count m (command.Remove tags ∷ cs) = commands_count m cs
+commands_count m (command.RemoveAll ∷ cs) = commands_count m cs
+commands_count m (command.Run n ∷ cs) = commands_count m cs
+commands_count m (command.Wm tags ∷ cs) = commands_count m cs
+commands_count m (command.Ppwm p ∷ cs) = commands_count m cs
+commands_count m (command.Cs ∷ cs) = commands_count m cs
+commands_count m (command.Pm ns ∷ cs) = commands_count m cs
+commands_count m (command.Strategy g ∷ cs) = commands_count m cs
+commands_count m (command.Watch n ∷ cs) = commands_count m cs
+commands_count m (command.Pbreak ns ∷ cs) = commands_count m cs
+commands_count m (command.Exit ∷ cs) = commands_count m cs
+commands_count m (command.Excise ns ∷ cs) = commands_count m cs
+commands_count m (command.Matches ns ∷ cs) = commands_count m cs
+commands_count m (command.Back n ∷ cs) = commands_count m cs
+
+next_front : (m : ℕ) (xs ys : List ℕ) → are_next m (xs ++ ys) ≡ true → are_next m xs ≡ true
+next_front m [] ys e = refl
+next_front m (x ∷ xs) ys e = let parts = and_parts (x == m) (are_next (suc m) (xs ++ ys)) e in and_from _ _ parts.0 (next_front (suc m) xs ys parts.1)
+
+next_back : (m : ℕ) (xs ys : List ℕ) → are_next m (xs ++ ys) ≡ true → are_next (m + length xs) ys ≡ true
+next_back m [] ys e = let none : m ≡ m + 0 = omega arith in ap (λ (i : ℕ). are_next i ys) (sym none) ∙ e
+next_back m (x ∷ xs) ys e =
+    let parts = and_parts (x == m) (are_next (suc m) (xs ++ ys)) e in
+    let same : suc m + length xs ≡ m + suc (length xs) = omega arith in
+    ap (λ (i : ℕ). are_next i ys) (sym same) ∙ next_back (suc m) xs ys parts.1
+
+-- behind the actions of a production stand the templates of the others
+next_behind : (m : ℕ) (xs : List Action) (ns : List ℕ) → are_next m (templates_in xs ++ ns) ≡ true → (are_next m (templates_in xs) ≡ true) × (are_next (made_behind m xs) ns ≡ true)
+next_behind m xs ns e = (next_front m (templates_in xs) ns e, ap (λ (i : ℕ). are_next i ns) (actions_count m xs) ∙ next_back m (templates_in xs) ns e)
+
+-- ---- productions and commands
+
+rules_read : (classes : List Class) (all : List Rule) (m : ℕ) (rs done : List Rule) (rest : Rest) → AreNamed classes → list_all (rule_is_plain classes all) rs ≡ true → are_distinct (map (λ r. r.name.0) (done ++ rs)) ≡ true → are_next m (templates_by rs) ≡ true
+    → Reads (spelled_each (spelled_rule classes all) rs) rest classes done (take m all) [] classes (done ++ rs) (take (made_rules m rs) all) []
+rules_read classes all m [] done rest names plain distinct next = (rest, λ more. ap (λ (xs : List Rule). goes more (Forms ∷ []) (idle rest classes xs (take m all) [])) (sym (append-nil done)))
+rules_read classes all m (r ∷ rs) done rest names plain distinct next =
+    let each = and_parts (rule_is_plain classes all r) (list_all (rule_is_plain classes all) rs) plain in
+    let parts = next_behind m r.actions (templates_by rs) next in
+    let n = made_behind m r.actions in
+    let whole : done ++ r ∷ [] ++ rs ≡ done ++ r ∷ rs = append_assoc done (r ∷ []) rs in
+    let others = spelled_each (spelled_rule classes all) rs in
+    let behind = rules_read classes all n rs (done ++ r ∷ []) (after_rule rest r) names each.1 (subst (λ (xs : List Rule). are_distinct (map (λ r. r.name.0) xs) ≡ true) (sym whole) distinct) parts.1 in (
       behind.0,
       λ more.
-          ap (λ (x : List Word). goes x (Forms ∷ []) (idle rest classes done [])) (append_assoc (spelled_rule classes r) others more)
-          ∙ rule-read classes done [] (others ++ more) [] names r rest (or_none (has_title r.name done) ∙ apart_before (λ (r : Rule). r.name.0) done r rs distinct) each.0
+          ap (λ (x : List Word). goes x (Forms ∷ []) (idle rest classes done (take m all) [])) (append_assoc (spelled_rule classes all r) others more)
+          ∙ rule-read classes done all m [] (others ++ more) [] names r rest (or_none (has_title r.name done) ∙ apart_before (λ (r : Rule). r.name.0) done r rs distinct) each.0 parts.0
           ∙ behind.1 more
-          ∙ ap (λ (xs : List Rule). goes more (Forms ∷ []) (idle behind.0 classes xs [])) all,
+          ∙ ap (λ (xs : List Rule). goes more (Forms ∷ []) (idle behind.0 classes xs (take (made_rules n rs) all) [])) whole,
     )
 
 -- A production that is added has a name of its own, and stands after a `make` or a `run`.
@@ -304,60 +337,68 @@ may_come rules done r cs distinct late =
       late_at done r cs late,
     )
 
-command_read : (classes : List Class) (rules : List Rule) (c : Command) (done : List Command) (rest : Rest) → AreNamed classes → command_is_plain classes c ≡ true → ((r : Rule) → c ≡ command.Add r → MayCome rules done r)
-    → Reads (spelled_command classes c) rest classes rules done classes rules (done ++ c ∷ [])
-command_read classes rules (command.Make class puts) done rest names plain may =
+command_read : (classes : List Class) (rules all : List Rule) (m : ℕ) (c : Command) (done : List Command) (rest : Rest) → AreNamed classes → command_is_plain classes all c ≡ true → ((r : Rule) → c ≡ command.Add r → MayCome rules done r)
+    → are_next m (templates_by (added c)) ≡ true → Reads (spelled_command classes all c) rest classes rules (take m all) done classes rules (take (made_command m c) all) (done ++ c ∷ [])
+command_read classes rules all m (command.Make class puts) done rest names plain may next =
     let parts = and_parts (nat_lt class (length classes)) (list_all (fixed_is_valid (class_of classes class)) puts) plain in
-    (record rest { first = 0; class = class; shows = false }, λ more. fact-read class puts more [] (idle rest classes rules done) names (ltb-true _ _ parts.0) parts.1)
-command_read classes rules (command.Remove tags) done rest names plain may =
+    (record rest { first = 0; class = class; shows = false }, λ more. fact-read class puts more [] (idle rest classes rules (take m all) done) names (ltb-true _ _ parts.0) parts.1)
+command_read classes rules all m (command.Remove tags) done rest names plain may next =
     let parts = and_parts (nat_lt 0 (length tags)) (list_all is_natural tags) plain in
-    (record rest { first = 0 }, λ more. remove-read tags more [] (idle rest classes rules done) parts.0 parts.1)
-command_read classes rules command.RemoveAll done rest names plain may = (record rest { first = 0 }, λ more. remove_all-read more [] (idle rest classes rules done))
-command_read classes rules (command.Run None) done rest names plain may = (record rest { first = 0 }, λ more. run-read more [] (idle rest classes rules done))
-command_read classes rules (command.Run (Some n)) done rest names plain may = (record rest { first = 0 }, λ more. run_so_often-read n more [] (idle rest classes rules done) plain)
-command_read classes rules (command.Wm tags) done rest names plain may = (record rest { first = 0 }, λ more. wm-read tags more [] (idle rest classes rules done) plain)
-command_read classes rules (command.Ppwm None) done rest names plain may = (record rest { first = 0 }, λ more. all_shown-read classes more [] (idle rest classes rules done))
-command_read classes rules (command.Ppwm (Some p)) done rest names plain may =
+    (record rest { first = 0 }, λ more. remove-read tags more [] (idle rest classes rules (take m all) done) parts.0 parts.1)
+command_read classes rules all m command.RemoveAll done rest names plain may next = (record rest { first = 0 }, λ more. remove_all-read more [] (idle rest classes rules (take m all) done))
+command_read classes rules all m (command.Run None) done rest names plain may next = (record rest { first = 0 }, λ more. run-read more [] (idle rest classes rules (take m all) done))
+command_read classes rules all m (command.Run (Some n)) done rest names plain may next = (record rest { first = 0 }, λ more. run_so_often-read n more [] (idle rest classes rules (take m all) done) plain)
+command_read classes rules all m (command.Wm tags) done rest names plain may next = (record rest { first = 0 }, λ more. wm-read tags more [] (idle rest classes rules (take m all) done) plain)
+command_read classes rules all m (command.Ppwm None) done rest names plain may next = (record rest { first = 0 }, λ more. all_shown-read classes more [] (idle rest classes rules (take m all) done))
+command_read classes rules all m (command.Ppwm (Some p)) done rest names plain may next =
     let parts = and_parts (nat_lt p.0 (length classes)) (list_all (fixed_is_valid (class_of classes p.0)) p.1) plain in
-    (record rest { first = 0; class = p.0; shows = true }, λ more. shown-read p.0 p.1 more [] (idle rest classes rules done) names (ltb-true _ _ parts.0) parts.1)
-command_read classes rules command.Cs done rest names plain may = (record rest { first = 0 }, λ more. cs-read more [] (idle rest classes rules done))
-command_read classes rules (command.Pm ns) done rest names plain may = (record rest { first = 0 }, λ more. pm-read ns more [] (idle rest classes rules done) plain)
-command_read classes rules (command.Strategy set) done rest names plain may = (record rest { first = 0 }, λ more. strategy-read set more [] (idle rest classes rules done))
-command_read classes rules (command.Watch None) done rest names plain may = (record rest { first = 0 }, λ more. watch-read more [] (idle rest classes rules done))
-command_read classes rules (command.Watch (Some n)) done rest names plain may = (record rest { first = 0 }, λ more. watch_at-read n more [] (idle rest classes rules done) plain)
-command_read classes rules (command.Pbreak ns) done rest names plain may = (record rest { first = 0 }, λ more. pbreak-read ns more [] (idle rest classes rules done))
-command_read classes rules command.Exit done rest names plain may = (record rest { first = 0 }, λ more. exit-read more [] (idle rest classes rules done))
-command_read classes rules (command.Add r) done rest names plain may =
+    (record rest { first = 0; class = p.0; shows = true }, λ more. shown-read p.0 p.1 more [] (idle rest classes rules (take m all) done) names (ltb-true _ _ parts.0) parts.1)
+command_read classes rules all m command.Cs done rest names plain may next = (record rest { first = 0 }, λ more. cs-read more [] (idle rest classes rules (take m all) done))
+command_read classes rules all m (command.Pm ns) done rest names plain may next = (record rest { first = 0 }, λ more. pm-read ns more [] (idle rest classes rules (take m all) done) plain)
+command_read classes rules all m (command.Strategy set) done rest names plain may next = (record rest { first = 0 }, λ more. strategy-read set more [] (idle rest classes rules (take m all) done))
+command_read classes rules all m (command.Watch None) done rest names plain may next = (record rest { first = 0 }, λ more. watch-read more [] (idle rest classes rules (take m all) done))
+command_read classes rules all m (command.Watch (Some n)) done rest names plain may next = (record rest { first = 0 }, λ more. watch_at-read n more [] (idle rest classes rules (take m all) done) plain)
+command_read classes rules all m (command.Pbreak ns) done rest names plain may next = (record rest { first = 0 }, λ more. pbreak-read ns more [] (idle rest classes rules (take m all) done))
+command_read classes rules all m command.Exit done rest names plain may next = (record rest { first = 0 }, λ more. exit-read more [] (idle rest classes rules (take m all) done))
+command_read classes rules all m (command.Add r) done rest names plain may next =
     let come = may r refl in (
       after_rule rest r,
       λ more.
-          rule-read classes rules done more [] names r rest come.0 plain
-          ∙ ap (λ (b : Bool). goes more (Forms ∷ []) (idle (after_rule rest r) classes (rules_with b rules r) (commands_with b done r))) come.1,
+          rule-read classes rules all m done more [] names r rest come.0 plain (next_front m (templates_in r.actions) [] next)
+          ∙ ap (λ (b : Bool). goes more (Forms ∷ []) (idle (after_rule rest r) classes (rules_with b rules r) (take (made_behind m r.actions) all) (commands_with b done r))) come.1,
     )
-command_read classes rules (command.Excise ns) done rest names plain may = (record rest { first = 0 }, λ more. excise-read ns more [] (idle rest classes rules done) plain)
-command_read classes rules (command.Matches ns) done rest names plain may = (record rest { first = 0 }, λ more. matches-read ns more [] (idle rest classes rules done) plain)
-command_read classes rules (command.Back n) done rest names plain may = (record rest { first = 0 }, λ more. back-read n more [] (idle rest classes rules done) plain)
+command_read classes rules all m (command.Excise ns) done rest names plain may next = (record rest { first = 0 }, λ more. excise-read ns more [] (idle rest classes rules (take m all) done) plain)
+command_read classes rules all m (command.Matches ns) done rest names plain may next = (record rest { first = 0 }, λ more. matches-read ns more [] (idle rest classes rules (take m all) done) plain)
+command_read classes rules all m (command.Back n) done rest names plain may next = (record rest { first = 0 }, λ more. back-read n more [] (idle rest classes rules (take m all) done) plain)
 
-commands_read : (classes : List Class) (rules : List Rule) (cs done : List Command) (rest : Rest) → AreNamed classes → list_all (command_is_plain classes) cs ≡ true
-    → titles_are_distinct rules (done ++ cs) ≡ true → adds_late (done ++ cs) ≡ true
-    → Reads (spelled_each (spelled_command classes) cs) rest classes rules done classes rules (done ++ cs)
-commands_read classes rules [] done rest names plain distinct late = (rest, λ more. ap (λ (xs : List Command). goes more (Forms ∷ []) (idle rest classes rules xs)) (sym (append-nil done)))
-commands_read classes rules (c ∷ cs) done rest names plain distinct late =
-    let each = and_parts (command_is_plain classes c) (list_all (command_is_plain classes) cs) plain in
-    let all : done ++ c ∷ [] ++ cs ≡ done ++ c ∷ cs = append_assoc done (c ∷ []) cs in
-    let others = spelled_each (spelled_command classes) cs in
+next_command : (m : ℕ) (c : Command) (rs : List Rule) → are_next m (templates_by (added c ++ rs)) ≡ true → (are_next m (templates_by (added c)) ≡ true) × (are_next (made_command m c) (templates_by rs) ≡ true)
+next_command m (command.Add r) rs e =
+    let parts = next_behind m r.actions (templates_by rs) e in
+    (ap (are_next m) (append-nil (templates_in r.actions)) ∙ parts.0, parts.1)
+next_command m _ rs e = (refl, e)
+
+commands_read : (classes : List Class) (rules all : List Rule) (m : ℕ) (cs done : List Command) (rest : Rest) → AreNamed classes → list_all (command_is_plain classes all) cs ≡ true
+    → titles_are_distinct rules (done ++ cs) ≡ true → adds_late (done ++ cs) ≡ true → are_next m (templates_by (added_by cs)) ≡ true
+    → Reads (spelled_each (spelled_command classes all) cs) rest classes rules (take m all) done classes rules (take (made_commands m cs) all) (done ++ cs)
+commands_read classes rules all m [] done rest names plain distinct late next = (rest, λ more. ap (λ (xs : List Command). goes more (Forms ∷ []) (idle rest classes rules (take m all) xs)) (sym (append-nil done)))
+commands_read classes rules all m (c ∷ cs) done rest names plain distinct late next =
+    let each = and_parts (command_is_plain classes all c) (list_all (command_is_plain classes all) cs) plain in
+    let parts = next_command m c (added_by cs) next in
+    let n = made_command m c in
+    let whole : done ++ c ∷ [] ++ cs ≡ done ++ c ∷ cs = append_assoc done (c ∷ []) cs in
+    let others = spelled_each (spelled_command classes all) cs in
     let may : (r : Rule) → c ≡ command.Add r → MayCome rules done r =
     λ r e. may_come rules done r cs (subst (λ (d : Command). titles_are_distinct rules (done ++ d ∷ cs) ≡ true) e distinct) (subst (λ (d : Command). adds_late (done ++ d ∷ cs) ≡ true) e late) in
-    let first = command_read classes rules c done rest names each.0 may in
+    let first = command_read classes rules all m c done rest names each.0 may parts.0 in
     let behind =
-    commands_read classes rules cs (done ++ c ∷ []) first.0 names each.1
-    (subst (λ (xs : List Command). titles_are_distinct rules xs ≡ true) (sym all) distinct) (subst (λ (xs : List Command). adds_late xs ≡ true) (sym all) late) in (
+    commands_read classes rules all n cs (done ++ c ∷ []) first.0 names each.1
+    (subst (λ (xs : List Command). titles_are_distinct rules xs ≡ true) (sym whole) distinct) (subst (λ (xs : List Command). adds_late xs ≡ true) (sym whole) late) parts.1 in (
       behind.0,
       λ more.
-          ap (λ (x : List Word). goes x (Forms ∷ []) (idle rest classes rules done)) (append_assoc (spelled_command classes c) others more)
+          ap (λ (x : List Word). goes x (Forms ∷ []) (idle rest classes rules (take m all) done)) (append_assoc (spelled_command classes all c) others more)
           ∙ first.1 (others ++ more)
           ∙ behind.1 more
-          ∙ ap (λ (xs : List Command). goes more (Forms ∷ []) (idle behind.0 classes rules xs)) all,
+          ∙ ap (λ (xs : List Command). goes more (Forms ∷ []) (idle behind.0 classes rules (take (made_commands n cs) all) xs)) whole,
     )
 
 -- ---- the law
@@ -371,32 +412,51 @@ abbrev nothing_left : Rest
 nothing_left = record { name = record { 0 = 0 }; first = 0; vectors = []; class = 0; values = []; elements = []; variables = 0; shows = false }
 
 -- Each program that has a spelling is what its spelling is read as.
-pub program-read : (classes : List Class) (rules : List Rule) (commands : List Command) → is_plain classes rules commands ≡ true → AreRead (spelled_program classes rules commands) classes rules commands
-program-read classes rules commands plain =
-    let p0 = and_parts _ (adds_late commands) plain in
+pub program-read : (classes : List Class) (rules templates : List Rule) (commands : List Command) → is_plain classes rules templates commands ≡ true
+    → AreRead (spelled_program classes rules templates commands) classes rules templates commands
+program-read classes rules templates commands plain =
+    let p9 = and_parts _ (builds_in_order (rules ++ added_by commands) templates) plain in
+    let p0 = and_parts _ (adds_late commands) p9.0 in
     let p1 = and_parts _ (titles_are_distinct rules commands) p0.0 in
     let p2 = and_parts _ (are_distinct (map (λ c. c.name.0) classes)) p1.0 in
-    let p3 = and_parts _ (list_all (command_is_plain classes) commands) p2.0 in
-    let p4 = and_parts (list_all (class_is_plain (vectors_of classes)) classes) (list_all (rule_is_plain classes) rules) p3.0 in
+    let p3 = and_parts _ (list_all (command_is_plain classes templates) commands) p2.0 in
+    let p4 = and_parts (list_all (class_is_plain (vectors_of classes)) classes) (list_all (rule_is_plain classes templates) rules) p3.0 in
+    let built = templates_by (rules ++ added_by commands) in
+    let p8 = and_parts (are_next 0 built) (length built == length templates) p9.1 in
+    let apart : built ≡ templates_by rules ++ templates_by (added_by commands) = flat_map-append (λ (r : Rule). templates_in r.actions) rules (added_by commands) in
+    let order : are_next 0 (templates_by rules ++ templates_by (added_by commands)) ≡ true = ap (are_next 0) (sym apart) ∙ p8.0 in
+    let m = made_rules 0 rules in
+    let later : are_next m (templates_by (added_by commands)) ≡ true =
+    ap (λ (i : ℕ). are_next i (templates_by (added_by commands))) (rules_count 0 rules) ∙ next_back 0 (templates_by rules) (templates_by (added_by commands)) order in
+    let end = made_commands m commands in
+    let size = eqb-true _ _ p8.1 in
+    let ends : end ≡ length templates =
+    omega (arith, commands_count m commands, rules_count m (added_by commands), rules_count 0 rules, size, ap (λ (xs : List ℕ). length xs) apart, length-append (templates_by rules) (templates_by (added_by commands))) in
     let names : AreNamed classes = record { classes_apart = p2.1; classes_valid = named_classes (vectors_of classes) classes p4.0 } in
     let vector_words = spelled_each spelled_vector classes in
     let first_words = spelled_each spelled_class classes in
-    let next_words = spelled_each (spelled_rule classes) rules in
-    let last_words = spelled_each (spelled_command classes) commands in
+    let next_words = spelled_each (spelled_rule classes templates) rules in
+    let last_words = spelled_each (spelled_command classes templates) commands in
     let vectors = vectors_read classes nothing_left in
     let first = classes_read classes [] vectors.0 (vectors_of classes) vectors.2 (λ n h. h) p4.0 p2.1 in
-    let next = rules_read classes rules [] first.0 names p4.1 (distinct_front title rules (added_by commands) p1.1) in
-    let last = commands_read classes rules commands [] next.0 names p3.1 p1.1 p0.1 in
+    let next = rules_read classes templates 0 rules [] first.0 names p4.1 (distinct_front title rules (added_by commands) p1.1) (next_front 0 (templates_by rules) (templates_by (added_by commands)) order) in
+    let last = commands_read classes rules templates m commands [] next.0 names p3.1 p1.1 p0.1 later in
     record {
-      state = idle last.0 classes rules commands;
+      state = idle last.0 classes rules templates commands;
       outcome = ap (λ (x : List Word). outcome_of x) (
           sym (append-nil (vector_words ++ first_words ++ next_words ++ last_words))
           ∙ append_assoc (vector_words ++ first_words ++ next_words) last_words []
           ∙ append_assoc (vector_words ++ first_words) next_words (last_words ++ [])
           ∙ append_assoc vector_words first_words (next_words ++ (last_words ++ []))
           )
-          ∙ vectors.1 (first_words ++ (next_words ++ (last_words ++ []))) ∙ first.1 (next_words ++ (last_words ++ [])) ∙ next.1 (last_words ++ []) ∙ last.1 [] ∙ at_end (idle last.0 classes rules commands);
+          ∙ vectors.1 (first_words ++ (next_words ++ (last_words ++ [])))
+          ∙ first.1 (next_words ++ (last_words ++ []))
+          ∙ next.1 (last_words ++ [])
+          ∙ last.1 []
+          ∙ at_end (idle last.0 classes rules (take end templates) commands)
+          ∙ ap (λ (ts : List Rule). Ok (idle last.0 classes rules ts commands)) (take_all end templates (omega (arith, ends)));
       classes_are = refl;
       rules_are = refl;
+      templates_are = refl;
       commands_are = refl;
     }

@@ -1,5 +1,5 @@
 -- Why a word is refused.
-use Rattle.std.proofs.Common.{◌≡◌, ℕ, suc, ◌+◌, ◌-◌, ◌<◌, Bool, true, false, not, ◌&&◌, ◌||◌, ◌==◌, cond, List, [], ◌∷◌, length, take, refl, sym, ap, subst, ◌∙◌, arith, Option, Some, None, Result, Ok, Err, nat_lt, is_some, position, slice_get, true≢false, nat_le}
+use Rattle.std.proofs.Common.{◌≡◌, ℕ, suc, ◌+◌, ◌-◌, ◌<◌, Bool, true, false, not, ◌&&◌, ◌||◌, ◌==◌, cond, List, [], ◌∷◌, length, take, refl, sym, ap, subst, ◌∙◌, arith, Option, Some, None, Result, Ok, Err, nat_lt, is_some, position, slice_get, true≢false, nat_le, inl, inr}
 use Rattle.std.specs.List.{list_any, position_or_len}
 use Rattle.std.proofs.lemmas.Bool.{cond_both, and_from, and_parts, lt-ltb}
 use Rattle.ops_base.specs.declared.values.Sym.{Sym}
@@ -20,9 +20,10 @@ use Rattle.ops_tokens.specs.declared.token.TokenKind.TheVariants as kind
 use Rattle.ops_grammar.specs.declared.words.Word.{Word}
 use Rattle.ops_grammar.specs.declared.words.Keyword.{Keyword}
 use Rattle.ops_grammar.specs.declared.words.Keyword.TheVariants as keyword
-use Rattle.ops_grammar.specs.Grammar.{Use, InPattern, InPut, InFixed, Target, ToTest, ToPut, ToFixed, ToTerms, ToConstants, ToItem, ToBind, EndsWhole, TagUse, ToRemove, NameUse, Column, Wanted, Forms, Form, ClassDeclared, Attributes, VectorName, VectorNames, RuleName, FirstPattern, Patterns, Pattern, Braced, ElementName, ClosesBrace, ClassName, Terms, Attribute, Several, Place, Tests, Tested, Choice, Atom, ValueFor, Function, Waiting, ExpressionUnit, ExpressionRest, Bracketed, SourceCell, SourceAttribute, SourceEnd, Actions, ActionWord, Modified, BoundName, BoundValue, CellName, Cell, Cells, Items, ItemWord, Columns, Count, StrategyName, TagOrAll, Tags, Shown, NamedRule, NamedRules, Level, Undone, Closes, State, Step, Next, Refuses, is_left, is_right, is_left_brace, is_right_brace, is_caret, is_name, is_variable, is_arrow, is_literal, is_minus, opens_choice, closes_choice, pred_of, constant_of, value_of, atom_of, natural_of, small_of, is_one_of, number_of, may_declare, is_class, is_rule, is_second, makes_second, vector_name, form, class_at, attributes_of, field_at, variable_tested, constant_tested, tested, predicated, test, place, chosen, atom_at, term_at, bound_at, constant_at, is_of_action, value_for, most_brackets, no_formula, with_formula, unit_bound, unit_at, expression_unit, bracketed, completed, is_compute, operation_of, operation_at, expression_ended, expression_rest, function, source_named, source_class, source_at, takes_several, ends_at_inf, source_end, within, one_of_several, several, element_at, element_name, action_word, designated, numbered_cell, named_cell, cell_of, with_designated, with_modified, cell_bound, item_word, columns_at, counted, count_of, count, strategy_set, strategy_of, strategy_name, tag_at, is_all, tag_or_all, tags, shown, named_rule, named_rules, level_of, undone_of, level_set, undone_set, level, undone, step, is_absent, begins_group, GroupBrace, Members, has_room}
+use Rattle.ops_grammar.specs.Grammar.{Use, InPattern, InPut, InFixed, Target, ToTest, ToPut, ToFixed, ToTerms, ToConstants, ToItem, ToBind, EndsWhole, TagUse, ToRemove, NameUse, Column, Wanted, Forms, Form, ClassDeclared, Attributes, VectorName, VectorNames, RuleName, FirstPattern, Patterns, Pattern, Braced, ElementName, ClosesBrace, ClassName, Terms, Attribute, Several, Place, Tests, Tested, Choice, Atom, ValueFor, Function, Waiting, ExpressionUnit, ExpressionRest, Bracketed, SourceCell, SourceAttribute, SourceEnd, Actions, ActionWord, Modified, BoundName, BoundValue, CellName, Cell, Cells, Items, ItemWord, Columns, Count, StrategyName, TagOrAll, Tags, Shown, NamedRule, NamedRules, Level, Undone, Closes, State, Step, Next, Refuses, is_left, is_right, is_left_brace, is_right_brace, is_caret, is_name, is_variable, is_arrow, is_literal, is_minus, opens_choice, closes_choice, pred_of, constant_of, value_of, atom_of, natural_of, small_of, is_one_of, number_of, may_declare, is_class, is_rule, is_second, makes_second, vector_name, form, class_at, attributes_of, field_at, variable_tested, constant_tested, tested, predicated, test, place, chosen, atom_at, term_at, bound_at, constant_at, is_of_action, value_for, most_brackets, no_formula, with_formula, unit_bound, unit_at, expression_unit, bracketed, completed, is_compute, operation_of, operation_at, expression_ended, expression_rest, function, source_named, source_class, source_at, takes_several, ends_at_inf, source_end, within, one_of_several, several, element_at, element_name, action_word, designated, numbered_cell, named_cell, cell_of, with_designated, with_modified, cell_bound, item_word, columns_at, counted, count_of, count, strategy_set, strategy_of, strategy_name, tag_at, is_all, tag_or_all, tags, shown, named_rule, named_rules, level_of, undone_of, level_set, undone_set, level, undone, step, is_absent, begins_group, GroupBrace, Members, has_room, with_hole, with_choice_of, with_constant, constant_by, build_word, BuiltName}
 use Rattle.ops_grammar.specs.Derivation.{is_designator}
-use Rattle.ops_grammar.specs.Reasons.{no_form_fault, is_declaration, wants_class, gives_second, is_full, nests_deepest, wants_bound, is_bound, is_positive, is_condition, designates, is_unclear, designates_unclearly, wants_cell, is_bad_designator, Because}
+use Rattle.ops_grammar.specs.Reasons.{no_form_fault, is_declaration, wants_class, gives_second, is_full, nests_deepest, wants_bound, is_bound, is_positive, is_condition, designates, is_unclear, designates_unclearly, wants_cell, is_bad_designator, Because, wants_constant}
+use Rattle.ops_grammar.proofs.Constants.{constant_cases}
 use Rattle.ops_grammar.proofs.Arranged.{AreArranged, functions_fit}
 
 abbrev pub HasReason : List Wanted → Word → State → Step → Type 0
@@ -83,8 +84,12 @@ module _ (w : Word) (ws : List Wanted) (s : State) where
   field_at_reason u is (Some f) e = cond_both (is_vector (class_of s.classes s.class) f) _ _ (At (Attribute u ∷ ws)) (λ _. tt) (λ _. tt)
   field_at_reason u is None e = (refl, is, position_none (λ (a : Sym). a.0 == w.name.0) (attributes_of (slice_get s.classes s.class)) e)
 
+  -- a constant is refused where it is a hole for a variable that is not bound
+  constant_reason : (here : List Wanted) (next : State → Step) → wants_constant here ≡ true → ((r : State) → At here (next r)) → At here (constant_by w.keyword next s)
+  constant_reason here next wants taken = constant_cases w.keyword next s (At here) (λ e. inr (wants, e)) (taken s) (λ variable m found. taken (with_hole s m))
+
   -- where no_form_fault is a bad form, and a variable with no number is not bound
-  module _ (here behind : List Wanted) (bad : no_form_fault here ≡ fault.BadForm) (unbound : number_of w.name s.values ≡ None → is_bound here w.name s ≡ false) where
+  module _ (here behind : List Wanted) (bad : no_form_fault here ≡ fault.BadForm) (constant : wants_constant here ≡ true) (unbound : number_of w.name s.values ≡ None → is_bound here w.name s ≡ false) where
     -- after a predicate that is no equality a variable must be bound
     abbrev WantsBoundBehind : Pred → Type 0
     WantsBoundBehind p = not (is_equality p) ≡ true → wants_bound here ≡ true
@@ -92,10 +97,10 @@ module _ (w : Word) (ws : List Wanted) (s : State) where
     variable_tested_reason : (f : ℕ) (p : Pred) → WantsBoundBehind p → is_variable w.kind ≡ true → (o : Option ℕ) → number_of w.name s.values ≡ o → At here (variable_tested f p o w.name behind s)
     variable_tested_reason f p wants is (Some n) e = tt
     variable_tested_reason f pred.Eq wants is None e = tt
-    variable_tested_reason f _ wants is None e = (wants refl, is, unbound e)
+    variable_tested_reason f _ wants is None e = inl (wants refl, is, unbound e)
 
     constant_tested_reason : (f : ℕ) (p : Pred) → WantsBoundBehind p → (o : Option Value) → At here (constant_tested f p w o behind s)
-    constant_tested_reason f p wants (Some v) = tt
+    constant_tested_reason f p wants (Some v) = constant_reason here (λ r. Next behind (with_constant (ToTest f p) r v)) constant (λ r. tt)
     constant_tested_reason f p wants None =
         cond_both (is_variable w.kind) _ _ (At here) (λ is. variable_tested_reason f p wants is (number_of w.name s.values) refl) (λ _. bad)
 
@@ -114,10 +119,10 @@ module _ (w : Word) (ws : List Wanted) (s : State) where
     module _ (t : Target) (wants : wants_bound here ≡ true) (bound : is_variable w.kind ≡ true → (x : Term) → At here (term_at t x behind s)) where
       bound_reason : is_variable w.kind ≡ true → (o : Option ℕ) → number_of w.name s.values ≡ o → At here (bound_at t o behind s)
       bound_reason is (Some n) e = bound is (term.Variable n)
-      bound_reason is None e = (wants, is, unbound e)
+      bound_reason is None e = inl (wants, is, unbound e)
 
       constant_at_reason : (o : Option Value) → At here (constant_at t w o behind s)
-      constant_at_reason (Some v) = tt
+      constant_at_reason (Some v) = constant_reason here (λ r. Next behind (with_constant t r v)) constant (λ r. tt)
       constant_at_reason None = cond_both (is_variable w.kind) _ _ (At here) (λ is. bound_reason is (number_of w.name s.values) refl) (λ _. bad)
 
       value_reason : At here (value_for t w behind s)
@@ -126,13 +131,13 @@ module _ (w : Word) (ws : List Wanted) (s : State) where
           (λ _. cond_both (is_left w.kind && is_of_action t) _ _ (At here) (λ _. tt) (λ _. constant_at_reason (value_of w.kind w.name)))
 
   value_for_reason : (t : Target) → At (ValueFor t ∷ ws) (value_for t w ws s)
-  value_for_reason (ToTest f p) = value_reason (ValueFor (ToTest f p) ∷ ws) ws refl (λ _. refl) (ToTest f p) refl (λ is x. (refl, is, refl))
-  value_for_reason (ToPut f) = value_reason (ValueFor (ToPut f) ∷ ws) ws refl (λ e. ap is_some e) (ToPut f) refl (λ is x. tt)
-  value_for_reason (ToFixed f) = value_reason (ValueFor (ToFixed f) ∷ ws) ws refl (λ _. refl) (ToFixed f) refl (λ is x. (refl, is, refl))
-  value_for_reason ToTerms = value_reason (ValueFor ToTerms ∷ ws) ws refl (λ e. ap is_some e) ToTerms refl (λ is x. tt)
-  value_for_reason ToConstants = value_reason (ValueFor ToConstants ∷ ws) ws refl (λ _. refl) ToConstants refl (λ is x. (refl, is, refl))
-  value_for_reason ToItem = value_reason (ValueFor ToItem ∷ ws) ws refl (λ e. ap is_some e) ToItem refl (λ is x. tt)
-  value_for_reason ToBind = value_reason (ValueFor ToBind ∷ ws) ws refl (λ e. ap is_some e) ToBind refl (λ is x. tt)
+  value_for_reason (ToTest f p) = value_reason (ValueFor (ToTest f p) ∷ ws) ws refl refl (λ _. refl) (ToTest f p) refl (λ is x. inl (refl, is, refl))
+  value_for_reason (ToPut f) = value_reason (ValueFor (ToPut f) ∷ ws) ws refl refl (λ e. ap is_some e) (ToPut f) refl (λ is x. tt)
+  value_for_reason (ToFixed f) = value_reason (ValueFor (ToFixed f) ∷ ws) ws refl refl (λ _. refl) (ToFixed f) refl (λ is x. inl (refl, is, refl))
+  value_for_reason ToTerms = value_reason (ValueFor ToTerms ∷ ws) ws refl refl (λ e. ap is_some e) ToTerms refl (λ is x. tt)
+  value_for_reason ToConstants = value_reason (ValueFor ToConstants ∷ ws) ws refl refl (λ _. refl) ToConstants refl (λ is x. inl (refl, is, refl))
+  value_for_reason ToItem = value_reason (ValueFor ToItem ∷ ws) ws refl refl (λ e. ap is_some e) ToItem refl (λ is x. tt)
+  value_for_reason ToBind = value_reason (ValueFor ToBind ∷ ws) ws refl refl (λ e. ap is_some e) ToBind refl (λ is x. tt)
 
   -- a term goes to a value of an action
   term_reason : (here behind : List Wanted) (s' : State) (t : Target) (x : Term) → is_of_action t ≡ true → At here (term_at t x behind s')
@@ -146,7 +151,7 @@ module _ (w : Word) (ws : List Wanted) (s : State) where
   module _ (here behind : List Wanted) (bad : no_form_fault here ≡ fault.BadForm) (wants : wants_bound here ≡ true) (unbound : number_of w.name s.values ≡ None → is_bound here w.name s ≡ false) where
     unit_bound_reason : is_variable w.kind ≡ true → (o : Option ℕ) → number_of w.name s.values ≡ o → At here (unit_bound o behind s)
     unit_bound_reason is (Some n) e = tt
-    unit_bound_reason is None e = (wants, is, unbound e)
+    unit_bound_reason is None e = inl (wants, is, unbound e)
 
     unit_at_reason : (k : TokenKind) → w.kind ≡ k → At here (unit_at k w.name behind s)
     unit_at_reason (kind.Whole n) e = tt
@@ -201,8 +206,8 @@ module _ (w : Word) (ws : List Wanted) (s : State) where
       (λ _. cond_both (is_name w.kind && (w.name.0 == name.0)) _ _ (At (SourceEnd t name ∷ ws))
       (λ _. term_reason (SourceEnd t name ∷ ws) ws s t (term.One s.source s.source_field) of_action) (λ _. refl))
 
-  place_reason : (here behind : List Wanted) → no_form_fault here ≡ fault.BadForm → (number_of w.name s.values ≡ None → is_bound here w.name s ≡ false) → (f : ℕ) → At here (place f w behind s)
-  place_reason here behind bad unbound f = cond_both (is_left_brace w.kind) _ _ (At here) (λ _. tt) (λ _. test_reason here behind bad unbound f)
+  place_reason : (here behind : List Wanted) → no_form_fault here ≡ fault.BadForm → wants_constant here ≡ true → (number_of w.name s.values ≡ None → is_bound here w.name s ≡ false) → (f : ℕ) → At here (place f w behind s)
+  place_reason here behind bad constant unbound f = cond_both (is_left_brace w.kind) _ _ (At here) (λ _. tt) (λ _. test_reason here behind bad constant unbound f)
 
   -- a place or a value more, where there is room for it
   within_reason : (here : List Wanted) (b : Bool) → (b ≡ false → is_full here s ≡ true) → (x : Step) → At here x → At here (within b x)
@@ -213,12 +218,12 @@ module _ (w : Word) (ws : List Wanted) (s : State) where
   one_of_several_reason : (u : Use) (f : ℕ) → At (Several u f ∷ ws) (one_of_several u f w ws s)
   one_of_several_reason InPattern f =
       within_reason (Several InPattern f ∷ ws) (nat_lt f most_fields) (λ e. ap not e) (place f w (Several InPattern (f + 1) ∷ ws) s)
-      (place_reason (Several InPattern f ∷ ws) (Several InPattern (f + 1) ∷ ws) refl (λ e. ap is_some e) f)
+      (place_reason (Several InPattern f ∷ ws) (Several InPattern (f + 1) ∷ ws) refl refl (λ e. ap is_some e) f)
   one_of_several_reason InPut f =
-      value_reason (Several InPut f ∷ ws) (Several InPut f ∷ ws) refl (λ e. ap is_some e) ToTerms refl (λ is x. tt)
+      value_reason (Several InPut f ∷ ws) (Several InPut f ∷ ws) refl refl (λ e. ap is_some e) ToTerms refl (λ is x. tt)
   one_of_several_reason InFixed f =
       within_reason (Several InFixed f ∷ ws) (nat_lt (f + length s.constants) most_fields) (λ e. ap not e) (value_for ToConstants w (Several InFixed f ∷ ws) s)
-      (value_reason (Several InFixed f ∷ ws) (Several InFixed f ∷ ws) refl (λ _. refl) ToConstants refl (λ is x. (refl, is, refl)))
+      (value_reason (Several InFixed f ∷ ws) (Several InFixed f ∷ ws) refl refl (λ _. refl) ToConstants refl (λ is x. inl (refl, is, refl)))
 
   several_reason : (u : Use) (f : ℕ) → At (Several u f ∷ ws) (several u f w ws s)
   several_reason u f =
@@ -246,23 +251,28 @@ module _ (w : Word) (ws : List Wanted) (s : State) where
   element_name_reason here behind bad again =
       cond_both (is_variable w.kind) _ _ (At here) (λ is. element_at_reason here behind (again is) (number_of w.name s.elements) refl) (λ _. bad)
 
-  chosen_reason : (f : ℕ) (o : Option Value) → At (Choice f ∷ ws) (chosen o (Choice f ∷ ws) s)
-  chosen_reason f (Some v) = tt
+  chosen_reason : (f : ℕ) (o : Option Value) → At (Choice f ∷ ws) (chosen w.keyword o (Choice f ∷ ws) s)
+  chosen_reason f (Some v) = constant_reason (Choice f ∷ ws) (λ r. Next (Choice f ∷ ws) (with_choice_of r v)) refl (λ r. tt)
   chosen_reason f None = refl
 
-  atom_reason : (t : Target) (o : Option Value) → At (Atom t ∷ ws) (atom_at t o ws s)
-  atom_reason t (Some v) = tt
+  atom_reason : (t : Target) (o : Option Value) → At (Atom t ∷ ws) (atom_at t w.keyword o ws s)
+  atom_reason t (Some v) = constant_reason (Atom t ∷ ws) (λ r. Next ws (with_constant t r v)) refl (λ r. tt)
   atom_reason t None = refl
 
-  action_word_reason : (k : Keyword) → At (ActionWord ∷ ws) (action_word k ws s)
-  action_word_reason keyword.Make = tt
-  action_word_reason keyword.Modify = tt
-  action_word_reason keyword.Bind = tt
-  action_word_reason keyword.Cbind = tt
-  action_word_reason keyword.Remove = tt
-  action_word_reason keyword.Write = tt
-  action_word_reason keyword.Halt = tt
-  action_word_reason _ = refl
+  build_reason : (b : Bool) → At (ActionWord b ∷ ws) (build_word b ws s)
+  build_reason true = refl
+  build_reason false = tt
+
+  action_word_reason : (b : Bool) (k : Keyword) → At (ActionWord b ∷ ws) (action_word b k ws s)
+  action_word_reason b keyword.Make = tt
+  action_word_reason b keyword.Modify = tt
+  action_word_reason b keyword.Bind = tt
+  action_word_reason b keyword.Cbind = tt
+  action_word_reason b keyword.Remove = tt
+  action_word_reason b keyword.Write = tt
+  action_word_reason b keyword.Halt = tt
+  action_word_reason b keyword.Build = build_reason b
+  action_word_reason b _ = refl
 
   -- the fault of a word that designates no cell has its reason
   abbrev Reasoned : List Wanted → Result ℕ Fault → Type 0
@@ -431,10 +441,10 @@ step_reason w (Attribute u ∷ ws) s arranged =
     cond_both (is_name w.kind) _ _ (HasReason (Attribute u ∷ ws) w s)
     (λ is. field_at_reason w ws s u is (position (λ a. a.0 == w.name.0) (attributes_of (slice_get s.classes s.class))) refl) (λ _. refl)
 step_reason w (Several u f ∷ ws) s arranged = several_reason w ws s u f
-step_reason w (Place f ∷ ws) s arranged = place_reason w ws s (Place f ∷ ws) ws refl (λ e. ap is_some e) f
+step_reason w (Place f ∷ ws) s arranged = place_reason w ws s (Place f ∷ ws) ws refl refl (λ e. ap is_some e) f
 step_reason w (Tests f ∷ ws) s arranged =
-    cond_both (is_right_brace w.kind) _ _ (HasReason (Tests f ∷ ws) w s) (λ _. tt) (λ _. test_reason w ws s (Tests f ∷ ws) (Tests f ∷ ws) refl (λ e. ap is_some e) f)
-step_reason w (Tested f p ∷ ws) s arranged = tested_reason w ws s (Tested f p ∷ ws) ws refl (λ e. ap is_some e) f p (λ e. e)
+    cond_both (is_right_brace w.kind) _ _ (HasReason (Tests f ∷ ws) w s) (λ _. tt) (λ _. test_reason w ws s (Tests f ∷ ws) (Tests f ∷ ws) refl refl (λ e. ap is_some e) f)
+step_reason w (Tested f p ∷ ws) s arranged = tested_reason w ws s (Tested f p ∷ ws) ws refl refl (λ e. ap is_some e) f p (λ e. e)
 step_reason w (Choice f ∷ ws) s arranged =
     cond_both (closes_choice w.keyword) _ _ (HasReason (Choice f ∷ ws) w s) (λ _. tt) (λ _. chosen_reason w ws s f (atom_of w.kind w.name))
 step_reason w (Atom t ∷ ws) s arranged = atom_reason w ws s t (atom_of w.kind w.name)
@@ -449,14 +459,15 @@ step_reason w (SourceAttribute t ∷ ws) s arranged =
     cond_both (is_name w.kind) _ _ (HasReason (SourceAttribute t ∷ ws) w s)
     (λ is. source_at_reason w ws s t is (position (λ a. a.0 == w.name.0) (source_class s).attrs) refl) (λ _. refl)
 step_reason w (SourceEnd t name ∷ ws) s arranged = source_end_reason w ws s t name arranged.1
-step_reason w (Actions ∷ ws) s arranged =
-    cond_both (is_right w.kind) _ _ (HasReason (Actions ∷ ws) w s) (λ _. tt) (λ _. cond_both (is_left w.kind) _ _ (HasReason (Actions ∷ ws) w s) (λ _. tt) (λ _. refl))
-step_reason w (ActionWord ∷ ws) s arranged = action_word_reason w ws s w.keyword
+step_reason w (Actions b ∷ ws) s arranged =
+    cond_both (is_right w.kind) _ _ (HasReason (Actions b ∷ ws) w s) (λ _. tt) (λ _. cond_both (is_left w.kind) _ _ (HasReason (Actions b ∷ ws) w s) (λ _. tt) (λ _. refl))
+step_reason w (ActionWord b ∷ ws) s arranged = action_word_reason w ws s b w.keyword
+step_reason w (BuiltName ∷ ws) s arranged = cond_both (is_name w.kind) _ _ (HasReason (BuiltName ∷ ws) w s) (λ _. tt) (λ _. refl)
 step_reason w (Modified ∷ ws) s arranged = modified_reason w ws s (cell_of w.kind w.name s) (cell_of_reason w ws s (Modified ∷ ws) refl refl (λ is e. and_from _ _ is (ap not e)) w.kind refl)
 step_reason w (BoundName ∷ ws) s arranged = cond_both (is_variable w.kind) _ _ (HasReason (BoundName ∷ ws) w s) (λ _. tt) (λ _. refl)
 step_reason w (BoundValue ∷ ws) s arranged =
     cond_both (is_right w.kind) _ _ (HasReason (BoundValue ∷ ws) w s) (λ _. tt)
-    (λ _. value_reason w ws s (BoundValue ∷ ws) (Closes EndsWhole ∷ ws) refl (λ e. ap is_some e) ToBind refl (λ is x. tt))
+    (λ _. value_reason w ws s (BoundValue ∷ ws) (Closes EndsWhole ∷ ws) refl refl (λ e. ap is_some e) ToBind refl (λ is x. tt))
 step_reason w (CellName ∷ ws) s arranged = cond_both (is_variable w.kind) _ _ (HasReason (CellName ∷ ws) w s) (λ is. cell_bound_reason w ws s is s.made refl) (λ _. refl)
 step_reason w (Cell ∷ ws) s arranged =
     cell_reason w ws s (Cell ∷ ws) ws (cell_of w.kind w.name s) (cell_of_reason w ws s (Cell ∷ ws) refl refl (λ is e. and_from _ _ is (ap not e)) w.kind refl)
@@ -465,7 +476,7 @@ step_reason w (Cells ∷ ws) s arranged =
     (λ _. cell_reason w ws s (Cells ∷ ws) (Cells ∷ ws) (cell_of w.kind w.name s) (cell_of_reason w ws s (Cells ∷ ws) refl refl (λ is e. and_from _ _ is (ap not e)) w.kind refl))
 step_reason w (Items ∷ ws) s arranged =
     cond_both (is_right w.kind) _ _ (HasReason (Items ∷ ws) w s) (λ _. tt)
-    (λ _. cond_both (is_left w.kind) _ _ (HasReason (Items ∷ ws) w s) (λ _. tt) (λ _. value_reason w ws s (Items ∷ ws) (Items ∷ ws) refl (λ e. ap is_some e) ToItem refl (λ is x. tt)))
+    (λ _. cond_both (is_left w.kind) _ _ (HasReason (Items ∷ ws) w s) (λ _. tt) (λ _. value_reason w ws s (Items ∷ ws) (Items ∷ ws) refl refl (λ e. ap is_some e) ToItem refl (λ is x. tt)))
 step_reason w (ItemWord ∷ ws) s arranged = item_word_reason w ws s w.keyword
 step_reason w (Columns c ∷ ws) s arranged = columns_reason w ws s c (small_of w.kind)
 step_reason w (Count ∷ ws) s arranged = count_reason w ws s

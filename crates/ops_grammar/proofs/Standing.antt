@@ -10,10 +10,11 @@ use Rattle.ops_base.specs.Names.{Spellings, only_nil}
 use Rattle.ops_base.specs.Valid.{longest_list}
 use Rattle.ops_tokens.specs.declared.token.LexFault.{LexFault}
 use Rattle.ops_grammar.specs.declared.words.Word.{Word}
-use Rattle.ops_grammar.specs.Words.{lexed, names_from}
+use Rattle.ops_grammar.specs.Words.{lexed, names_from, tokens_of}
 use Rattle.ops_grammar.specs.Grammar.{InPattern, InPut, InFixed, ToTerms, ToConstants, ToItem, ToBind, EndsWhole, Wanted, Forms, Terms, Several, Place, ValueFor, Function, ExpressionUnit, ExpressionRest, Closes, State, Step, Next, Refuses, Outcome, step, ends, after, goes, nothing_read}
 use Rattle.ops_grammar.specs.Derivation.{Derives, nothing, no_form, one_more_place, one_more_term, one_more_constant, no_more_of_several, a_bracketed_expression, a_bound_value, a_function_item, IsText}
-use Rattle.ops_grammar.specs.Reads.{Read, Placed, verdict, read_lexed, reads}
+use Rattle.ops_grammar.specs.Reads.{stands_at as place_of}
+use Rattle.ops_grammar.specs.Reads.{Read, Placed, verdict, reads, read_tokens}
 use Rattle.ops_grammar.specs.Standing.{words_of, outcome_of, StandsAt, StandsAtWord, IsReadOrInForm}
 use Rattle.ops_grammar.proofs.Arranged.{AreArranged, arranged_begun}
 use Rattle.ops_grammar.proofs.Derived.{forms_last, taken_derives, taken_last, taken_arranged, refused_in_form}
@@ -45,10 +46,10 @@ module _ (before : List Word) (w : Word) (f : Fault) (to : List Wanted) (at : St
             refused_in_no_form w to at arranged last f refused is more (derives_behind to at before (Forms ∷ []) nothing_read reached arranged_begun refl proper (w ∷ more) d);
       }
 
-pub stands_at_word : (text : List ℕ) (f : Fault) (w : Word) → outcome_of (words_of text) ≡ Err (f, Some w) → StandsAtWord text (record { fault = f; at = w.first })
+pub stands_at_word : (text : List ℕ) (f : Fault) (w : Word) → outcome_of (words_of text) ≡ Err (f, Some w) → StandsAtWord text (record { fault = f; at = place_of f w })
 stands_at_word text f w e =
     let stop = stopped (words_of text) (Forms ∷ []) nothing_read f w e in
-    let proper : list_all is_proper (stop.before ++ w ∷ stop.behind) ≡ true = subst (λ (x : List Word). list_all is_proper x ≡ true) stop.words_are (words_proper text only_nil (lexed text).tokens) in
+    let proper : list_all is_proper (stop.before ++ w ∷ stop.behind) ≡ true = subst (λ (x : List Word). list_all is_proper x ≡ true) stop.words_are (words_proper text only_nil (tokens_of text)) in
     let parts = and_parts _ _ (sym (list_all-append is_proper stop.before (w ∷ stop.behind)) ∙ proper) in
     record {
       before = stop.before;
@@ -87,10 +88,10 @@ verdict_derives text (Err (f, None)) names stop r is e = absurd (cc)
 verdict_derives text (Ok s) names (Some f) r is e = absurd (cc)
 verdict_derives text (Ok s) names None r is e = read_derives (words_of text) (Forms ∷ []) nothing_read s arranged_begun is
 
-text_by_length : (text : List ℕ) (r : Read) (long : Bool) → (let x : Result Read Placed = cond long (Err (record { fault = fault.TooLong; at = 0 })) (read_lexed text (lexed text)) in x ≡ Ok r) → IsText (words_of text)
+text_by_length : (text : List ℕ) (r : Read) (long : Bool) → (let x : Result Read Placed = cond long (Err (record { fault = fault.TooLong; at = 0 })) (read_tokens text (lexed text).stop (tokens_of text)) in x ≡ Ok r) → IsText (words_of text)
 text_by_length text r true e = absurd (cc)
 text_by_length text r false e =
-    verdict_derives text (outcome_of (words_of text)) (names_from text only_nil (lexed text).tokens) (lexed text).stop r refl e
+    verdict_derives text (outcome_of (words_of text)) (names_from text only_nil (tokens_of text)) (lexed text).stop r refl e
 
 -- A text that is read is one of the grammar.
 pub text-derived : (text : List ℕ) (r : Read) → reads text ≡ Ok r → IsText (words_of text)
@@ -154,4 +155,4 @@ pub derived-read : (words : List Word) → list_all is_proper words ≡ true →
 derived-read words proper d = derived_goes_on words (Forms ∷ []) nothing_read arranged_begun d refl proper
 
 pub text-read : (text : List ℕ) → IsText (words_of text) → IsReadOrInForm (outcome_of (words_of text))
-text-read text d = derived-read (words_of text) (words_proper text only_nil (lexed text).tokens) d
+text-read text d = derived-read (words_of text) (words_proper text only_nil (tokens_of text)) d

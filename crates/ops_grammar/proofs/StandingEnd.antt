@@ -6,10 +6,10 @@ use Rattle.ops_base.specs.declared.endings.Fault.TheVariants as fault
 use Rattle.ops_base.specs.Names.{Spellings, only_nil}
 use Rattle.ops_base.specs.Valid.{longest_list}
 use Rattle.ops_tokens.specs.declared.token.LexFault.{LexFault}
-use Rattle.ops_grammar.specs.Words.{lexed, names_from}
+use Rattle.ops_grammar.specs.Words.{lexed, names_from, tokens_of}
 use Rattle.ops_grammar.specs.Grammar.{Outcome, Forms, nothing_read}
 use Rattle.ops_grammar.specs.Derivation.{IsText}
-use Rattle.ops_grammar.specs.Reads.{Read, Placed, verdict, read_lexed, reads, cut_off, between_forms}
+use Rattle.ops_grammar.specs.Reads.{Read, Placed, verdict, reads, cut_off, between_forms, read_tokens, stands_at}
 use Rattle.ops_grammar.specs.Standing.{words_of, outcome_of, IsTaken, IsReadOrInForm, StandsAtWord, StandsAtEnd, Stands}
 use Rattle.ops_grammar.proofs.Arranged.{arranged_begun}
 use Rattle.ops_grammar.proofs.Completed.{completed}
@@ -45,17 +45,17 @@ stands_at_end text p taken e =
 
 verdict_stands : (text : List ℕ) (o : Outcome) (names : Spellings) (p : Placed) → outcome_of (words_of text) ≡ o → verdict (length text) names (lexed text).stop o ≡ Err p → Stands text p
 verdict_stands text (Err (f, Some w)) names p is e =
-    let same : record { fault = f; at = w.first } ≡ p = cc in inl (subst (StandsAtWord text) same (stands_at_word text f w is))
+    let same : record { fault = f; at = stands_at f w } ≡ p = cc in inl (subst (StandsAtWord text) same (stands_at_word text f w is))
 verdict_stands text (Err (f, None)) names p is e =
     inr (inl (stands_at_end text p (subst IsTaken (sym is) tt) (verdict_ends text (Err (f, None)) names (lexed text).stop p refl is tt e)))
 verdict_stands text (Ok s) names p is e =
     inr (inl (stands_at_end text p (subst IsTaken (sym is) tt) (verdict_ends text (Ok s) names (lexed text).stop p refl is tt e)))
 
 fault_by_length : (text : List ℕ) (p : Placed) (long : Bool) → nat_lt longest_list (length text) ≡ long
-    → (let x : Result Read Placed = cond long (Err (record { fault = fault.TooLong; at = 0 })) (read_lexed text (lexed text)) in x ≡ Err p) → Stands text p
+    → (let x : Result Read Placed = cond long (Err (record { fault = fault.TooLong; at = 0 })) (read_tokens text (lexed text).stop (tokens_of text)) in x ≡ Err p) → Stands text p
 fault_by_length text p true is e = let same : record { fault = fault.TooLong; at = 0 } ≡ p = cc in inr (inr (ltb-true _ _ is, sym same))
 fault_by_length text p false is e =
-    verdict_stands text (outcome_of (words_of text)) (names_from text only_nil (lexed text).tokens) p refl e
+    verdict_stands text (outcome_of (words_of text)) (names_from text only_nil (tokens_of text)) p refl e
 
 -- Where a text has a fault, the fault stands there.
 pub fault-stands : (text : List ℕ) (p : Placed) → reads text ≡ Err p → Stands text p

@@ -16,7 +16,8 @@ use Rattle.ops_tokens.specs.declared.token.TokenKind.TheVariants as kind
 use Rattle.ops_grammar.specs.declared.words.Word.{Word}
 use Rattle.ops_grammar.specs.declared.words.Keyword.{Keyword}
 use Rattle.ops_grammar.specs.declared.words.Keyword.TheVariants as keyword
-use Rattle.ops_grammar.specs.Grammar.{Use, InPattern, InPut, InFixed, Target, ToPut, ToTerms, ToConstants, ToItem, ToBind, Wanted, Form, ClassDeclared, Attributes, VectorName, VectorNames, RuleName, Patterns, Pattern, Braced, ElementName, ClosesBrace, ClassName, Terms, Attribute, Several, Tested, ValueFor, ExpressionUnit, ExpressionRest, Bracketed, EndsWhole, SourceCell, SourceAttribute, SourceEnd, Modified, BoundValue, CellName, Cell, Cells, Items, Shown, Closes, State, Step, Next, Refuses, is_left, is_right, is_left_brace, is_caret, is_name, is_variable, is_arrow, is_literal, is_minus, constant_of, value_of, natural_of, is_one_of, number_of, may_declare, is_class, is_rule, is_second, makes_second, vector_name, form, class_at, attributes_of, field_at, variable_tested, constant_tested, tested, term_at, bound_at, constant_at, is_of_action, value_for, most_brackets, unit_bound, unit_at, expression_unit, is_compute, source_named, source_class, source_at, takes_several, ends_at_inf, place, terms, within, one_of_several, with_several, several, element_at, element_name, designated, numbered_cell, named_cell, cell_of, with_designated, with_modified, cell_bound, step, is_absent, begins_group, Members, has_room, is_right_brace}
+use Rattle.ops_grammar.proofs.Constants.{constant_cases}
+use Rattle.ops_grammar.specs.Grammar.{Use, InPattern, InPut, InFixed, Target, ToPut, ToTerms, ToConstants, ToItem, ToBind, Wanted, Form, ClassDeclared, Attributes, VectorName, VectorNames, RuleName, Patterns, Pattern, Braced, ElementName, ClosesBrace, ClassName, Terms, Attribute, Several, Tested, ValueFor, ExpressionUnit, ExpressionRest, Bracketed, EndsWhole, SourceCell, SourceAttribute, SourceEnd, Modified, BoundValue, CellName, Cell, Cells, Items, Shown, Closes, State, Step, Next, Refuses, is_left, is_right, is_left_brace, is_caret, is_name, is_variable, is_arrow, is_literal, is_minus, constant_of, value_of, natural_of, is_one_of, number_of, may_declare, is_class, is_rule, is_second, makes_second, vector_name, form, class_at, attributes_of, field_at, variable_tested, constant_tested, tested, term_at, bound_at, constant_at, is_of_action, value_for, most_brackets, unit_bound, unit_at, expression_unit, is_compute, source_named, source_class, source_at, takes_several, ends_at_inf, place, terms, within, one_of_several, with_several, several, element_at, element_name, designated, numbered_cell, named_cell, cell_of, with_designated, with_modified, cell_bound, step, is_absent, begins_group, Members, has_room, is_right_brace, with_constant, ToTest}
 use Rattle.ops_grammar.specs.Derivation.{is_designator}
 use Rattle.ops_grammar.proofs.Follows.{name_not_right, designator_not_right, variable_not_left}
 use Rattle.ops_grammar.specs.Reasons.{gives_second, is_full, is_positive, is_condition, designates, is_unclear, designates_unclearly}
@@ -176,7 +177,9 @@ module _ (w : Word) (ws : List Wanted) (s : State) where
   variable_tested_fits f _ None e = tt
 
   constant_tested_fits : (f : ℕ) (p : Pred) (o : Option Value) → constant_of w.kind w.name ≡ o → IfTaken (OperandFits p w s) (constant_tested f p w o ws s)
-  constant_tested_fits f p (Some v) e = operand_known p (λ _ is. clash (is_variable w.kind) is (constant_not_variable w.kind w.name v e))
+  constant_tested_fits f p (Some v) e =
+      let fits = operand_known p (λ _ is. clash (is_variable w.kind) is (constant_not_variable w.kind w.name v e)) in
+      constant_cases w.keyword (λ r. Next ws (with_constant (ToTest f p) r v)) s (IfTaken (OperandFits p w s)) (λ _. tt) fits (λ variable m found. fits)
   constant_tested_fits f p None e =
       cond_both (is_variable w.kind) _ _ (IfTaken (OperandFits p w s)) (λ _. variable_tested_fits f p (number_of w.name s.values) refl) (λ _. tt)
 
@@ -202,7 +205,9 @@ module _ (w : Word) (ws : List Wanted) (s : State) where
   bound_fits t None e = tt
 
   constant_at_fits : (t : Target) (o : Option Value) → value_of w.kind w.name ≡ o → IfTaken (ValueFits t w s) (constant_at t w o ws s)
-  constant_at_fits t (Some v) e = value_fits_where t (λ _. value_not_variable w.kind w.name v e)
+  constant_at_fits t (Some v) e =
+      let fits = value_fits_where t (λ _. value_not_variable w.kind w.name v e) in
+      constant_cases w.keyword (λ r. Next ws (with_constant t r v)) s (IfTaken (ValueFits t w s)) (λ _. tt) fits (λ variable m found. fits)
   constant_at_fits t None e = cond_both (is_variable w.kind) _ _ (IfTaken (ValueFits t w s)) (λ _. bound_fits t (number_of w.name s.values) refl) (λ _. tt)
 
   value_fits : (t : Target) → IfTaken (ValueFits t w s) (value_for t w ws s)

@@ -9,7 +9,7 @@ use Rattle.ops_tokens.specs.declared.token.TokenKind.{TokenKind}
 use Rattle.ops_tokens.specs.declared.token.TokenKind.TheVariants as kind
 use Rattle.ops_grammar.specs.declared.words.Word.{Word}
 use Rattle.ops_grammar.specs.declared.words.Keyword.TheVariants as keyword
-use Rattle.ops_grammar.specs.Grammar.{Use, InPattern, InPut, InFixed, Target, ToTest, ToTerms, ToConstants, ToItem, ToBind, Ends, EndsHalt, EndsCrlf, EndsCs, EndsExit, EndsWhole, TagUse, ToRemove, ToShow, NameUse, ToPrint, ToBreak, ToExcise, ToMatch, Column, ToTab, ToRight, Wanted, Forms, Form, ClassDeclared, Attributes, VectorName, VectorNames, RuleName, FirstPattern, Patterns, Pattern, Braced, ElementName, ClosesBrace, ClassName, Terms, Attribute, Several, Place, Tests, Tested, Choice, Atom, ValueFor, Function, Waiting, ExpressionUnit, ExpressionRest, Bracketed, SourceCell, SourceAttribute, SourceEnd, Actions, ActionWord, Modified, BoundName, BoundValue, CellName, Cell, Cells, Items, ItemWord, Columns, Count, StrategyName, TagOrAll, Tags, Shown, NamedRule, NamedRules, Level, Undone, Closes, is_left, is_right, is_left_brace, is_right_brace, is_caret, is_name, is_variable, is_literal, is_inf, operation_of, function_depth, is_of_action, takes_several, is_minus, opens_choice, closes_choice, pred_of, constant_of, value_of, atom_of, small_of, count_of, strategy_of, is_all, level_of, undone_of, is_one_of, behind_attribute, GroupBrace, Members, begins_group}
+use Rattle.ops_grammar.specs.Grammar.{Use, InPattern, InPut, InFixed, Target, ToTest, ToTerms, ToConstants, ToItem, ToBind, Ends, EndsHalt, EndsCrlf, EndsCs, EndsExit, EndsWhole, TagUse, ToRemove, ToShow, NameUse, ToPrint, ToBreak, ToExcise, ToMatch, Column, ToTab, ToRight, Wanted, Forms, Form, ClassDeclared, Attributes, VectorName, VectorNames, RuleName, FirstPattern, Patterns, Pattern, Braced, ElementName, ClosesBrace, ClassName, Terms, Attribute, Several, Place, Tests, Tested, Choice, Atom, ValueFor, Function, Waiting, ExpressionUnit, ExpressionRest, Bracketed, SourceCell, SourceAttribute, SourceEnd, Actions, ActionWord, BuiltName, Modified, BoundName, BoundValue, CellName, Cell, Cells, Items, ItemWord, Columns, Count, StrategyName, TagOrAll, Tags, Shown, NamedRule, NamedRules, Level, Undone, Closes, is_left, is_right, is_left_brace, is_right_brace, is_caret, is_name, is_variable, is_literal, is_inf, operation_of, is_of_action, takes_several, is_minus, opens_choice, closes_choice, pred_of, constant_of, value_of, atom_of, small_of, count_of, strategy_of, is_all, level_of, undone_of, is_one_of, behind_attribute, GroupBrace, Members, begins_group}
 
 -- WHOLE
 abbrev pub is_whole : TokenKind → Bool
@@ -58,7 +58,7 @@ pub data Derives : List Sym → List Wanted → List Word → Type 0 where
   one_more_vector : {vs : List Sym} {ws : List Wanted} {w : Word} {ts : List Word} → is_name w.kind ≡ true → Derives (with_name w.name vs) (VectorNames ∷ ws) ts → Derives vs (VectorNames ∷ ws) (w ∷ ts)
   no_more_vectors : {vs : List Sym} {ws : List Wanted} {w : Word} {ts : List Word} → is_right w.kind ≡ true → Derives vs ws ts → Derives vs (VectorNames ∷ ws) (w ∷ ts)
   -- form = ( p NAME first condition* --> action* ); a first that is negated continues the grammar, and is refused as that
-  a_production : {vs : List Sym} {ws : List Wanted} {w : Word} {ts : List Word} → w.keyword ≡ keyword.Production → Derives vs (RuleName ∷ FirstPattern ∷ Patterns ∷ Actions ∷ ws) ts → Derives vs (Form ∷ ws) (w ∷ ts)
+  a_production : {vs : List Sym} {ws : List Wanted} {w : Word} {ts : List Word} → w.keyword ≡ keyword.Production → Derives vs (RuleName ∷ FirstPattern ∷ Patterns ∷ Actions false ∷ ws) ts → Derives vs (Form ∷ ws) (w ∷ ts)
   a_rule : {vs : List Sym} {ws : List Wanted} {w : Word} {ts : List Word} → is_name w.kind ≡ true → Derives vs ws ts → Derives vs (RuleName ∷ ws) (w ∷ ts)
   a_first : {vs : List Sym} {ws : List Wanted} {w : Word} {ts : List Word} → is_left w.kind ≡ true → Derives vs (ClassName ∷ Terms InPattern ∷ ws) ts → Derives vs (FirstPattern ∷ ws) (w ∷ ts)
   a_braced_first : {vs : List Sym} {ws : List Wanted} {w : Word} {ts : List Word} → is_left_brace w.kind ≡ true → Derives vs (Braced ∷ ws) ts → Derives vs (FirstPattern ∷ ws) (w ∷ ts)
@@ -132,7 +132,7 @@ pub data Derives : List Sym → List Wanted → List Word → Type 0 where
   a_literal_value : {vs : List Sym} {t : Target} {ws : List Wanted} {w : Word} {ts : List Word} → is_literal w.keyword ≡ true → Derives vs (Atom t ∷ ws) ts → Derives vs (ValueFor t ∷ ws) (w ∷ ts)
   a_function : {vs : List Sym} {t : Target} {ws : List Wanted} {w : Word} {ts : List Word} → is_left w.kind ≡ true → is_of_action t ≡ true → Derives vs (Function t ∷ ws) ts → Derives vs (ValueFor t ∷ ws) (w ∷ ts)
   -- ( compute expr ) | ( genatom ) | ( accept )
-  a_compute : {vs : List Sym} {t : Target} {ws : List Wanted} {w : Word} {ts : List Word} → w.keyword ≡ keyword.Compute → Derives vs (ExpressionUnit function_depth ∷ ExpressionRest function_depth [] (Some t) ∷ ws) ts → Derives vs (Function t ∷ ws) (w ∷ ts)
+  a_compute : {vs : List Sym} {t : Target} (d : ℕ) {ws : List Wanted} {w : Word} {ts : List Word} → w.keyword ≡ keyword.Compute → Derives vs (ExpressionUnit d ∷ ExpressionRest d [] (Some t) ∷ ws) ts → Derives vs (Function t ∷ ws) (w ∷ ts)
   a_genatom : {vs : List Sym} {t : Target} {ws : List Wanted} {w : Word} {ts : List Word} → w.keyword ≡ keyword.Genatom → Derives vs (Closes EndsWhole ∷ ws) ts → Derives vs (Function t ∷ ws) (w ∷ ts)
   an_accept : {vs : List Sym} {t : Target} {ws : List Wanted} {w : Word} {ts : List Word} → w.keyword ≡ keyword.Accept → Derives vs (Closes EndsWhole ∷ ws) ts → Derives vs (Function t ∷ ws) (w ∷ ts)
   -- expr = unit | unit OP expr
@@ -168,16 +168,19 @@ pub data Derives : List Sym → List Wanted → List Word → Type 0 where
   one_more_choice : {vs : List Sym} {f : ℕ} {ws : List Wanted} {w : Word} {ts : List Word} → is_choice w ≡ true → Derives vs (Choice f ∷ ws) ts → Derives vs (Choice f ∷ ws) (w ∷ ts)
   no_more_choices : {vs : List Sym} {f : ℕ} {ws : List Wanted} {w : Word} {ts : List Word} → closes_choice w.keyword ≡ true → Derives vs ws ts → Derives vs (Choice f ∷ ws) (w ∷ ts)
   -- action = ( make CLASS put* ) | ( modify DESIGNATOR put* ) | ( remove DESIGNATOR DESIGNATOR* ) | ( write item* )
-  -- | ( bind VARIABLE [value] ) | ( cbind VARIABLE ) | ( halt )
-  an_action : {vs : List Sym} {ws : List Wanted} {w : Word} {ts : List Word} → is_left w.kind ≡ true → Derives vs (ActionWord ∷ Actions ∷ ws) ts → Derives vs (Actions ∷ ws) (w ∷ ts)
-  no_action : {vs : List Sym} {ws : List Wanted} {w : Word} {ts : List Word} → is_right w.kind ≡ true → Derives vs ws ts → Derives vs (Actions ∷ ws) (w ∷ ts)
-  to_make : {vs : List Sym} {ws : List Wanted} {w : Word} {ts : List Word} → w.keyword ≡ keyword.Make → Derives vs (ClassName ∷ Terms InPut ∷ ws) ts → Derives vs (ActionWord ∷ ws) (w ∷ ts)
-  to_modify : {vs : List Sym} {ws : List Wanted} {w : Word} {ts : List Word} → w.keyword ≡ keyword.Modify → Derives vs (Modified ∷ Terms InPut ∷ ws) ts → Derives vs (ActionWord ∷ ws) (w ∷ ts)
-  to_bind : {vs : List Sym} {ws : List Wanted} {w : Word} {ts : List Word} → w.keyword ≡ keyword.Bind → Derives vs (BoundName ∷ BoundValue ∷ ws) ts → Derives vs (ActionWord ∷ ws) (w ∷ ts)
-  to_cbind : {vs : List Sym} {ws : List Wanted} {w : Word} {ts : List Word} → w.keyword ≡ keyword.Cbind → Derives vs (CellName ∷ Closes EndsWhole ∷ ws) ts → Derives vs (ActionWord ∷ ws) (w ∷ ts)
-  to_remove : {vs : List Sym} {ws : List Wanted} {w : Word} {ts : List Word} → w.keyword ≡ keyword.Remove → Derives vs (Cell ∷ Cells ∷ ws) ts → Derives vs (ActionWord ∷ ws) (w ∷ ts)
-  to_write : {vs : List Sym} {ws : List Wanted} {w : Word} {ts : List Word} → w.keyword ≡ keyword.Write → Derives vs (Items ∷ ws) ts → Derives vs (ActionWord ∷ ws) (w ∷ ts)
-  to_halt : {vs : List Sym} {ws : List Wanted} {w : Word} {ts : List Word} → w.keyword ≡ keyword.Halt → Derives vs (Closes EndsHalt ∷ ws) ts → Derives vs (ActionWord ∷ ws) (w ∷ ts)
+  -- | ( bind VARIABLE [value] ) | ( cbind VARIABLE ) | ( halt ) | ( build NAME first condition* --> action* ), the last but
+  -- in one that is built
+  an_action : {vs : List Sym} {b : Bool} {ws : List Wanted} {w : Word} {ts : List Word} → is_left w.kind ≡ true → Derives vs (ActionWord b ∷ Actions b ∷ ws) ts → Derives vs (Actions b ∷ ws) (w ∷ ts)
+  no_action : {vs : List Sym} {b : Bool} {ws : List Wanted} {w : Word} {ts : List Word} → is_right w.kind ≡ true → Derives vs ws ts → Derives vs (Actions b ∷ ws) (w ∷ ts)
+  to_make : {vs : List Sym} {b : Bool} {ws : List Wanted} {w : Word} {ts : List Word} → w.keyword ≡ keyword.Make → Derives vs (ClassName ∷ Terms InPut ∷ ws) ts → Derives vs (ActionWord b ∷ ws) (w ∷ ts)
+  to_modify : {vs : List Sym} {b : Bool} {ws : List Wanted} {w : Word} {ts : List Word} → w.keyword ≡ keyword.Modify → Derives vs (Modified ∷ Terms InPut ∷ ws) ts → Derives vs (ActionWord b ∷ ws) (w ∷ ts)
+  to_bind : {vs : List Sym} {b : Bool} {ws : List Wanted} {w : Word} {ts : List Word} → w.keyword ≡ keyword.Bind → Derives vs (BoundName ∷ BoundValue ∷ ws) ts → Derives vs (ActionWord b ∷ ws) (w ∷ ts)
+  to_cbind : {vs : List Sym} {b : Bool} {ws : List Wanted} {w : Word} {ts : List Word} → w.keyword ≡ keyword.Cbind → Derives vs (CellName ∷ Closes EndsWhole ∷ ws) ts → Derives vs (ActionWord b ∷ ws) (w ∷ ts)
+  to_remove : {vs : List Sym} {b : Bool} {ws : List Wanted} {w : Word} {ts : List Word} → w.keyword ≡ keyword.Remove → Derives vs (Cell ∷ Cells ∷ ws) ts → Derives vs (ActionWord b ∷ ws) (w ∷ ts)
+  to_write : {vs : List Sym} {b : Bool} {ws : List Wanted} {w : Word} {ts : List Word} → w.keyword ≡ keyword.Write → Derives vs (Items ∷ ws) ts → Derives vs (ActionWord b ∷ ws) (w ∷ ts)
+  to_halt : {vs : List Sym} {b : Bool} {ws : List Wanted} {w : Word} {ts : List Word} → w.keyword ≡ keyword.Halt → Derives vs (Closes EndsHalt ∷ ws) ts → Derives vs (ActionWord b ∷ ws) (w ∷ ts)
+  to_build : {vs : List Sym} {ws : List Wanted} {w : Word} {ts : List Word} → w.keyword ≡ keyword.Build → Derives vs (BuiltName ∷ FirstPattern ∷ Patterns ∷ Actions true ∷ ws) ts → Derives vs (ActionWord false ∷ ws) (w ∷ ts)
+  a_built_name : {vs : List Sym} {ws : List Wanted} {w : Word} {ts : List Word} → is_name w.kind ≡ true → Derives vs ws ts → Derives vs (BuiltName ∷ ws) (w ∷ ts)
   a_modified : {vs : List Sym} {ws : List Wanted} {w : Word} {ts : List Word} → is_designator w.kind ≡ true → Derives vs ws ts → Derives vs (Modified ∷ ws) (w ∷ ts)
   a_bound_name : {vs : List Sym} {ws : List Wanted} {w : Word} {ts : List Word} → is_variable w.kind ≡ true → Derives vs ws ts → Derives vs (BoundName ∷ ws) (w ∷ ts)
   a_bound_value : {vs : List Sym} {ws : List Wanted} {ts : List Word} → Derives vs (ValueFor ToBind ∷ Closes EndsWhole ∷ ws) ts → Derives vs (BoundValue ∷ ws) ts

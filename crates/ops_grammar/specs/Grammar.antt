@@ -1,5 +1,5 @@
 -- The grammar of program texts, as what a word does where something is wanted.
-use Rattle.std.specs.Prelude.{ℕ, suc, ◌+◌, ◌-◌, List, [], ◌∷◌, ◌++◌, length, take, map, filter, position, Bool, true, false, not, ◌==◌, ◌&&◌, ◌||◌, nat_lt, nat_le, if◌then◌else◌, Option, Some, None, Result, Ok, Err, ℤ, pos, negsuc, slice_get, unwrap_or}
+use Rattle.std.specs.Prelude.{ℕ, suc, ◌+◌, ◌-◌, List, [], ◌∷◌, ◌++◌, length, take, map, filter, position, Bool, true, false, not, ◌==◌, ◌&&◌, ◌||◌, nat_lt, nat_le, if◌then◌else◌, Option, Some, None, is_some, Result, Ok, Err, ℤ, pos, negsuc, slice_get, unwrap_or}
 use Rattle.std.specs.List.{list_any, list_all, flat_map}
 use Rattle.ops_base.specs.declared.values.Sym.{Sym}
 use Rattle.ops_base.specs.declared.values.Value.{Value}
@@ -20,6 +20,7 @@ use Rattle.ops_base.specs.declared.actions.Term.TheVariants as term
 use Rattle.ops_base.specs.declared.actions.Put.{Put}
 use Rattle.ops_base.specs.declared.actions.Item.{Item}
 use Rattle.ops_base.specs.declared.actions.Item.TheVariants as item
+use Rattle.ops_base.specs.declared.actions.Hole.{Hole}
 use Rattle.ops_base.specs.declared.actions.Action.{Action}
 use Rattle.ops_base.specs.declared.actions.Action.TheVariants as action
 use Rattle.ops_base.specs.declared.rules.Rule.{Rule}
@@ -159,11 +160,14 @@ pub data Wanted : Type 0 where
   SourceAttribute : (target : Target) → Wanted
   -- ATTR | inf, after this name
   SourceEnd : (target : Target) → (name : Sym) → Wanted
-  -- action* )
-  Actions : Wanted
+  -- action* ), of a production that is built or of one of the text
+  Actions : (built : Bool) → Wanted
   -- make CLASS put* ) | modify DESIGNATOR put* ) | remove DESIGNATOR DESIGNATOR* ) | write item* ) | bind VARIABLE [value] )
-  -- | cbind VARIABLE ) | halt )
-  ActionWord : Wanted
+  -- | cbind VARIABLE ) | halt ), and in a production of the text
+  -- | build NAME first condition* --> action* )
+  ActionWord : (built : Bool) → Wanted
+  -- NAME, of a production that is built
+  BuiltName : Wanted
   -- DESIGNATOR, before put*
   Modified : Wanted
   -- VARIABLE, before a value or none
@@ -204,10 +208,24 @@ pub data Wanted : Type 0 where
   -- )
   Closes : (what : Ends) → Wanted
 
+-- What is kept of a production while one that it builds is read.
+pub record Outer : Type 0 where
+  pub name : Sym
+  pub first : ℕ
+  pub values : List Named
+  pub elements : List Named
+  pub variables : ℕ
+  pub conditions : List Part
+  pub actions : List Action
+  pub made : Option ℕ
+  pub further : List ℕ
+
 -- What was read so far.
 pub record State : Type 0 where
   pub classes : List Class
   pub rules : List Rule
+  -- the productions that actions build
+  pub templates : List Rule
   pub commands : List Command
   -- the names of vector attributes
   pub vectors : List Sym
@@ -239,9 +257,10 @@ pub record State : Type 0 where
   pub members : List Condition
   pub conditions : List Part
   pub actions : List Action
-  -- the cell that a `modify` names, none in a `make`; the class of the element that this right side made last; the
+  -- the first byte of the action that is read; the cell that a `modify` names, none in a `make`; the class of the element that this right side made last; the
   -- classes of the cells that its `cbind` named; the variable of a `bind`; the cell and the field of a `substr`; and
   -- the operand of a `compute` that was read last
+  pub begun : ℕ
   pub modified : Option ℕ
   pub made : Option ℕ
   pub further : List ℕ
@@ -249,6 +268,10 @@ pub record State : Type 0 where
   pub source : ℕ
   pub source_field : ℕ
   pub formula : Formula
+  -- of a production, how many constants of it were read; the holes of one that is built, and the production around it
+  pub counted : ℕ
+  pub holes : List Hole
+  pub outer : Option Outer
   -- of a command: whether it shows the elements that its constants fit, in place of making one; its tags; and its names
   pub shows : Bool
   pub tags : List ℕ
@@ -467,7 +490,7 @@ abbrev pub form : Word → Keyword → List Wanted → State → Step
 form w keyword.Literalize ws s =
     if may_declare s then Next (ClassDeclared ∷ Attributes ∷ ws) s else Refuses fault.LateDeclaration
 form w keyword.VectorAttribute ws s = if may_declare s then Next (VectorName ∷ VectorNames ∷ ws) s else Refuses fault.LateDeclaration
-form w keyword.Production ws s = Next (RuleName ∷ FirstPattern ∷ Patterns ∷ Actions ∷ ws) s
+form w keyword.Production ws s = Next (RuleName ∷ FirstPattern ∷ Patterns ∷ Actions false ∷ ws) s
 form w keyword.Make ws s = Next (ClassName ∷ Terms InFixed ∷ ws) (record s { fixed = []; shows = false })
 form w keyword.Remove ws s = Next (TagOrAll ∷ ws) (record s { tags = [] })
 form w keyword.Run ws s = Next (Count ∷ ws) s
@@ -605,14 +628,43 @@ with_bind None s t =
       variables = s.variables + 1;
     }
 
+-- one more constant of a production
+abbrev pub counting : State → State
+counting s = record s { counted = suc s.counted }
+
 abbrev pub with_constant : Target → State → Value → State
-with_constant (ToTest f p) s v = with_test s f p (operand.Constant v) false
-with_constant (ToPut f) s v = with_put s f (term.Constant v)
+with_constant (ToTest f p) s v = counting (with_test s f p (operand.Constant v) false)
+with_constant (ToPut f) s v = counting (with_put s f (term.Constant v))
 with_constant (ToFixed f) s v = with_fixed s f v
-with_constant ToTerms s v = record s { terms = s.terms ++ term.Constant v ∷ [] }
+with_constant ToTerms s v = counting (record s { terms = s.terms ++ term.Constant v ∷ [] })
 with_constant ToConstants s v = record s { constants = s.constants ++ v ∷ [] }
-with_constant ToItem s v = with_item s (item.Print (term.Constant v))
-with_constant ToBind s v = with_bind (number_of s.variable s.values) s (term.Constant v)
+with_constant ToItem s v = counting (with_item s (item.Print (term.Constant v)))
+with_constant ToBind s v = counting (with_bind (number_of s.variable s.values) s (term.Constant v))
+
+-- ---- holes
+
+-- the variables in sight around the production that is read
+abbrev pub values_around : Option Outer → List Named
+values_around None = []
+values_around (Some o) = o.values
+
+-- the next constant is a hole for this variable of the production around
+abbrev pub with_hole : State → ℕ → State
+with_hole s n = record s { holes = s.holes ++ record { number = s.counted; variable = n } ∷ [] }
+
+abbrev pub filled : Option ℕ → (State → Step) → State → Step
+filled (Some n) next s = next (with_hole s n)
+filled None next s = Refuses fault.UnboundVariable
+
+-- the variable of a hole
+abbrev pub hole_of : Keyword → Option Sym
+hole_of (keyword.Hole variable at) = Some variable
+hole_of _ = None
+
+-- what a constant does, which may be a hole: its variable must be bound in the production around
+abbrev pub constant_by : Keyword → (State → Step) → State → Step
+constant_by (keyword.Hole variable at) next s = filled (number_of variable (values_around s.outer)) next s
+constant_by _ next s = next s
 
 -- ---- tests
 
@@ -628,7 +680,7 @@ variable_tested f pred.Eq None name ws s = Next ws (with_bound s f name)
 variable_tested f p None name ws s = Refuses fault.UnboundVariable
 
 abbrev pub constant_tested : ℕ → Pred → Word → Option Value → List Wanted → State → Step
-constant_tested f p w (Some v) ws s = Next ws (with_constant (ToTest f p) s v)
+constant_tested f p w (Some v) ws s = constant_by w.keyword (λ t. Next ws (with_constant (ToTest f p) t v)) s
 constant_tested f p w None ws s =
     if is_variable w.kind then variable_tested f p (number_of w.name s.values) w.name ws s else Refuses fault.BadForm
 
@@ -655,16 +707,20 @@ tests f w ws s = if is_right_brace w.kind then Next ws s else test f w (Tests f 
 abbrev pub with_choice : State → ℕ → State
 with_choice s f = record (with_test s f pred.Eq (operand.OneOf s.choice) false) { choice = [] }
 
-abbrev pub chosen : Option Value → List Wanted → State → Step
-chosen (Some v) ws s = Next ws (record s { choice = s.choice ++ v ∷ [] })
-chosen None ws s = Refuses fault.BadForm
+-- one more constant of it
+abbrev pub with_choice_of : State → Value → State
+with_choice_of s v = counting (record s { choice = s.choice ++ v ∷ [] })
+
+abbrev pub chosen : Keyword → Option Value → List Wanted → State → Step
+chosen k (Some v) ws s = constant_by k (λ t. Next ws (with_choice_of t v)) s
+chosen k None ws s = Refuses fault.BadForm
 
 abbrev pub choice : ℕ → Word → List Wanted → State → Step
-choice f w ws s = if closes_choice w.keyword then Next ws (with_choice s f) else chosen (atom_of w.kind w.name) (Choice f ∷ ws) s
+choice f w ws s = if closes_choice w.keyword then Next ws (with_choice s f) else chosen w.keyword (atom_of w.kind w.name) (Choice f ∷ ws) s
 
-abbrev pub atom_at : Target → Option Value → List Wanted → State → Step
-atom_at t (Some v) ws s = Next ws (with_constant t s v)
-atom_at t None ws s = Refuses fault.BadForm
+abbrev pub atom_at : Target → Keyword → Option Value → List Wanted → State → Step
+atom_at t k (Some v) ws s = constant_by k (λ r. Next ws (with_constant t r v)) s
+atom_at t k None ws s = Refuses fault.BadForm
 
 -- ---- values
 
@@ -681,7 +737,7 @@ bound_at t (Some n) ws s = term_at t (term.Variable n) ws s
 bound_at t None ws s = Refuses fault.UnboundVariable
 
 abbrev pub constant_at : Target → Word → Option Value → List Wanted → State → Step
-constant_at t w (Some v) ws s = Next ws (with_constant t s v)
+constant_at t w (Some v) ws s = constant_by w.keyword (λ r. Next ws (with_constant t r v)) s
 constant_at t w None ws s =
     if is_variable w.kind then bound_at t (number_of w.name s.values) ws s else Refuses fault.BadForm
 
@@ -706,9 +762,14 @@ value_for t w ws s =
 abbrev pub most_brackets : ℕ
 most_brackets = 32
 
--- how many are open in a function: those of the production, of the action and its own
-abbrev pub function_depth : ℕ
-function_depth = 3
+-- how many are open in a function: those of the production, of the action and its own, and of the production around
+abbrev pub function_depth : Bool → ℕ
+function_depth false = 3
+function_depth true = 4
+
+-- a production that is built is read
+abbrev pub is_built : State → Bool
+is_built s = is_some s.outer
 
 -- the operand where none is read
 abbrev pub no_formula : Formula
@@ -769,7 +830,7 @@ classes_of_cells s = cells_of s.conditions ++ s.further
 
 abbrev pub function : Target → Keyword → List Wanted → State → Step
 function t keyword.Substr ws s = Next (SourceCell ∷ SourceAttribute t ∷ ws) s
-function t keyword.Compute ws s = Next (ExpressionUnit function_depth ∷ ExpressionRest function_depth [] (Some t) ∷ ws) s
+function t keyword.Compute ws s = Next (ExpressionUnit (function_depth (is_built s)) ∷ ExpressionRest (function_depth (is_built s)) [] (Some t) ∷ ws) s
 function t keyword.Genatom ws s = term_at t term.Fresh (Closes EndsWhole ∷ ws) s
 function t keyword.Accept ws s = term_at t term.Accept (Closes EndsWhole ∷ ws) s
 function t _ ws s = Refuses fault.BadForm
@@ -910,6 +971,9 @@ left_begun s =
       grouped = false;
       members = [];
       conditions = [];
+      counted = 0;
+      holes = [];
+      outer = None;
     }
 
 -- a left side ends: its conditions, and the variables that they bind, are all that it leaves
@@ -927,6 +991,7 @@ right_begun s =
       cells = [];
       items = [];
       actions = [];
+      begun = 0;
       modified = None;
       made = None;
       further = [];
@@ -1046,23 +1111,81 @@ rule_of s past =
 
 -- a production ends
 abbrev pub with_rule : State → ℕ → State
-with_rule s past = with_production (record (right_begun s) { conditions = [] }) (rule_of s past)
+with_rule s past = with_production (record (right_begun s) { conditions = []; counted = 0; holes = [] }) (rule_of s past)
 
-abbrev pub actions : Word → List Wanted → State → Step
-actions w ws s =
-    if is_right w.kind then Next ws (with_rule s w.past)
-    else if is_left w.kind then Next (ActionWord ∷ Actions ∷ ws) s
+-- ---- build
+
+-- what is kept of the production that is read
+abbrev pub outer_of : State → Outer
+outer_of s =
+    record {
+      name = s.name;
+      first = s.first;
+      values = s.values;
+      elements = s.elements;
+      variables = s.variables;
+      conditions = s.conditions;
+      actions = s.actions;
+      made = s.made;
+      further = s.further;
+    }
+
+-- the production that is built begins with its action, and nothing of the one around is in sight
+abbrev pub build_begun : State → State
+build_begun s = record (right_begun (left_begun s)) { first = s.begun; outer = Some (outer_of s) }
+
+abbrev pub built_name : Word → List Wanted → State → Step
+built_name w ws s = if is_name w.kind then Next ws (record s { name = w.name }) else Refuses fault.BadForm
+
+-- one more template, and what was kept of the production around it, with an action that builds from the template
+abbrev pub with_template : Outer → State → Rule → State
+with_template o s r =
+    record (right_begun s) {
+      templates = s.templates ++ r ∷ [];
+      name = o.name;
+      first = o.first;
+      values = o.values;
+      elements = o.elements;
+      variables = o.variables;
+      conditions = o.conditions;
+      actions = o.actions ++ action.Build (length s.templates) s.holes ∷ [];
+      made = o.made;
+      further = o.further;
+      counted = 0;
+      holes = [];
+      outer = None;
+    }
+
+abbrev pub build_ended : Option Outer → State → Rule → State
+build_ended (Some o) s r = with_template o s r
+build_ended None s r = s
+
+-- the production ends that is built, or one of the text
+abbrev pub side_ended : Bool → State → ℕ → State
+side_ended true s past = build_ended s.outer s (rule_of s past)
+side_ended false s past = with_rule s past
+
+abbrev pub actions : Bool → Word → List Wanted → State → Step
+actions built w ws s =
+    if is_right w.kind then Next ws (side_ended built s w.past)
+    else if is_left w.kind then Next (ActionWord built ∷ Actions built ∷ ws) (record s { begun = w.first })
     else Refuses fault.BadForm
 
-abbrev pub action_word : Keyword → List Wanted → State → Step
-action_word keyword.Make ws s = Next (ClassName ∷ Terms InPut ∷ ws) (record s { puts = []; modified = None })
-action_word keyword.Modify ws s = Next (Modified ∷ Terms InPut ∷ ws) (record s { puts = [] })
-action_word keyword.Remove ws s = Next (Cell ∷ Cells ∷ ws) (record s { cells = [] })
-action_word keyword.Write ws s = Next (Items ∷ ws) (record s { items = [] })
-action_word keyword.Bind ws s = Next (BoundName ∷ BoundValue ∷ ws) s
-action_word keyword.Cbind ws s = Next (CellName ∷ Closes EndsWhole ∷ ws) s
-action_word keyword.Halt ws s = Next (Closes EndsHalt ∷ ws) s
-action_word _ ws s = Refuses fault.BadForm
+-- A production that is built builds none.
+abbrev pub build_word : Bool → List Wanted → State → Step
+build_word true ws s = Refuses fault.BadForm
+build_word false ws s = Next (BuiltName ∷ FirstPattern ∷ Patterns ∷ Actions true ∷ ws) (build_begun s)
+
+abbrev pub action_word : Bool → Keyword → List Wanted → State → Step
+action_word built keyword.Make ws s = Next (ClassName ∷ Terms InPut ∷ ws) (record s { puts = []; modified = None })
+action_word built keyword.Modify ws s = Next (Modified ∷ Terms InPut ∷ ws) (record s { puts = [] })
+action_word built keyword.Remove ws s = Next (Cell ∷ Cells ∷ ws) (record s { cells = [] })
+action_word built keyword.Write ws s = Next (Items ∷ ws) (record s { items = [] })
+action_word built keyword.Bind ws s = Next (BoundName ∷ BoundValue ∷ ws) s
+action_word built keyword.Cbind ws s = Next (CellName ∷ Closes EndsWhole ∷ ws) s
+action_word built keyword.Halt ws s = Next (Closes EndsHalt ∷ ws) s
+action_word built keyword.Build ws s = build_word built ws s
+action_word built _ ws s = Refuses fault.BadForm
 
 -- ---- designators
 
@@ -1318,7 +1441,7 @@ step w (Place f ∷ ws) s = place f w ws s
 step w (Tests f ∷ ws) s = tests f w ws s
 step w (Tested f p ∷ ws) s = tested f p w ws s
 step w (Choice f ∷ ws) s = choice f w ws s
-step w (Atom t ∷ ws) s = atom_at t (atom_of w.kind w.name) ws s
+step w (Atom t ∷ ws) s = atom_at t w.keyword (atom_of w.kind w.name) ws s
 step w (ValueFor t ∷ ws) s = value_for t w ws s
 step w (Function t ∷ ws) s = function t w.keyword ws s
 step w (ExpressionUnit d ∷ ws) s = expression_unit d w ws s
@@ -1327,8 +1450,9 @@ step w (Bracketed d ∷ ws) s = bracketed d w ws s
 step w (SourceCell ∷ ws) s = source_cell w ws s
 step w (SourceAttribute t ∷ ws) s = source_attribute t w ws s
 step w (SourceEnd t name ∷ ws) s = source_end t name w ws s
-step w (Actions ∷ ws) s = actions w ws s
-step w (ActionWord ∷ ws) s = action_word w.keyword ws s
+step w (Actions b ∷ ws) s = actions b w ws s
+step w (ActionWord b ∷ ws) s = action_word b w.keyword ws s
+step w (BuiltName ∷ ws) s = built_name w ws s
 step w (Modified ∷ ws) s = modified w ws s
 step w (BoundName ∷ ws) s = bound_name w ws s
 step w (BoundValue ∷ ws) s = bound_value w ws s
@@ -1373,6 +1497,7 @@ nothing_read =
     record {
       classes = [];
       rules = [];
+      templates = [];
       commands = [];
       vectors = [];
       name = record { 0 = 0 };
@@ -1397,6 +1522,7 @@ nothing_read =
       members = [];
       conditions = [];
       actions = [];
+      begun = 0;
       modified = None;
       made = None;
       further = [];
@@ -1404,6 +1530,9 @@ nothing_read =
       source = 0;
       source_field = 0;
       formula = no_formula;
+      counted = 0;
+      holes = [];
+      outer = None;
       shows = false;
       tags = [];
       named = [];

@@ -7,15 +7,20 @@ use Rattle.ops_base.specs.declared.endings.Fault.{Fault}
 use Rattle.ops_base.specs.declared.endings.Fault.TheVariants as fault
 use Rattle.ops_base.specs.Names.{Spellings, only_nil}
 use Rattle.ops_base.specs.Valid.{longest_list}
+use Rattle.ops_tokens.specs.declared.token.Token.{Token}
 use Rattle.ops_tokens.specs.declared.token.LexFault.{LexFault}
 use Rattle.ops_tokens.specs.declared.token.TheConstants.{BAD_BYTE, UNCLOSED, FRACTION_NUMBER, NUMBER_RANGE}
-use Rattle.ops_grammar.specs.Words.{Lexed, lexed, words_from, names_from}
+use Rattle.ops_grammar.specs.declared.words.Word.{Word}
+use Rattle.ops_grammar.specs.declared.words.Keyword.{Keyword}
+use Rattle.ops_grammar.specs.declared.words.Keyword.TheVariants as keyword
+use Rattle.ops_grammar.specs.Words.{lexed, tokens_of, words_from, names_from}
 use Rattle.ops_grammar.specs.Grammar.{Outcome, Forms, goes, nothing_read}
 
 -- the parts of a program, and the names of its symbols
 pub record Read : Type 0 where
   pub classes : List Class
   pub rules : List Rule
+  pub templates : List Rule
   pub commands : List Command
   pub names : Spellings
 
@@ -52,18 +57,28 @@ abbrev pub cut_off : ℕ → Option LexFault → Placed
 cut_off end (Some f) = within_form f
 cut_off end None = record { fault = fault.Unclosed; at = end }
 
+-- the first byte of a hole's variable, or this one
+abbrev pub variable_place : Keyword → ℕ → ℕ
+variable_place (keyword.Hole variable at) first = at
+variable_place _ first = first
+
+-- the byte at which a word is refused: its first, but where the variable of a hole is bound nowhere that of the variable
+abbrev pub stands_at : Fault → Word → ℕ
+stands_at fault.UnboundVariable w = variable_place w.keyword w.first
+stands_at f w = w.first
+
 -- The program, or the fault with the least place: tokens are read up to the first that goes on to nothing, and what
 -- stops the tokens counts where none does.
 abbrev pub verdict : ℕ → Spellings → Option LexFault → Outcome → Result Read Placed
-verdict end names stop (Err (f, Some w)) = Err (record { fault = f; at = w.first })
+verdict end names stop (Err (f, Some w)) = Err (record { fault = f; at = stands_at f w })
 verdict end names stop (Err (f, None)) = Err (cut_off end stop)
 verdict end names (Some f) (Ok s) = Err (between_forms f)
-verdict end names None (Ok s) = Ok (record { classes = s.classes; rules = s.rules; commands = s.commands; names = names })
+verdict end names None (Ok s) = Ok (record { classes = s.classes; rules = s.rules; templates = s.templates; commands = s.commands; names = names })
 
-abbrev pub read_lexed : List ℕ → Lexed → Result Read Placed
-read_lexed text l =
-    verdict (length text) (names_from text only_nil l.tokens) l.stop (goes (words_from text only_nil l.tokens) (Forms ∷ []) nothing_read)
+abbrev pub read_tokens : List ℕ → Option LexFault → List Token → Result Read Placed
+read_tokens text stop tokens =
+    verdict (length text) (names_from text only_nil tokens) stop (goes (words_from text only_nil tokens) (Forms ∷ []) nothing_read)
 
 -- the program that the grammar derives from the text, or the fault of the text
 unfoldable pub reads : List ℕ → Result Read Placed
-reads text = if nat_lt longest_list (length text) then Err (record { fault = fault.TooLong; at = 0 }) else read_lexed text (lexed text)
+reads text = if nat_lt longest_list (length text) then Err (record { fault = fault.TooLong; at = 0 }) else read_tokens text (lexed text).stop (tokens_of text)

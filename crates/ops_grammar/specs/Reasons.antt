@@ -1,5 +1,5 @@
 -- Why a word is refused: what each fault says of the word, of what is wanted there and of what was read before.
-use Rattle.std.specs.Prelude.{◌≡◌, ℕ, ◌+◌, ◌-◌, List, [], ◌∷◌, length, take, Bool, true, false, not, ◌&&◌, ◌||◌, nat_lt, Option, Some, None, is_some, slice_get}
+use Rattle.std.specs.Prelude.{◌≡◌, ◌⊎◌, ℕ, ◌+◌, ◌-◌, List, [], ◌∷◌, length, take, Bool, true, false, not, ◌&&◌, ◌||◌, nat_lt, Option, Some, None, is_some, slice_get}
 use Rattle.std.specs.List.{list_any}
 use Rattle.ops_base.specs.declared.values.Sym.{Sym}
 use Rattle.ops_base.specs.declared.conditions.Part.{Part}
@@ -12,7 +12,7 @@ use Rattle.ops_tokens.specs.declared.token.TokenKind.TheVariants as kind
 use Rattle.ops_grammar.specs.declared.words.Word.{Word}
 use Rattle.ops_grammar.specs.declared.words.Keyword.{Keyword}
 use Rattle.ops_grammar.specs.declared.words.Keyword.TheVariants as keyword
-use Rattle.ops_grammar.specs.Grammar.{InPattern, InPut, InFixed, ToTest, ToFixed, ToConstants, Wanted, Forms, Form, ClassDeclared, Attributes, VectorName, VectorNames, RuleName, FirstPattern, Patterns, Braced, ElementName, ClassName, Attribute, Several, Shown, Tested, ValueFor, ExpressionUnit, Bracketed, SourceCell, SourceAttribute, Modified, BoundValue, CellName, Cell, Cells, Items, State, most_brackets, is_left, is_name, is_variable, is_minus, natural_of, is_one_of, number_of, may_declare, is_class, is_rule, is_second, makes_second, attributes_of, source_class, is_absent, Members, has_room, begins_group}
+use Rattle.ops_grammar.specs.Grammar.{InPattern, InPut, InFixed, ToTest, ToFixed, ToConstants, Wanted, Forms, Form, ClassDeclared, Attributes, VectorName, VectorNames, RuleName, FirstPattern, Patterns, Braced, ElementName, ClassName, Attribute, Several, Shown, Place, Tests, Tested, Choice, Atom, ValueFor, ExpressionUnit, Bracketed, SourceCell, SourceAttribute, Modified, BoundValue, CellName, Cell, Cells, Items, State, most_brackets, is_left, is_name, is_variable, is_minus, natural_of, is_one_of, number_of, may_declare, is_class, is_rule, is_second, makes_second, attributes_of, source_class, is_absent, Members, has_room, begins_group, values_around}
 use Rattle.ops_grammar.specs.Derivation.{is_designator}
 
 -- The numbers of the faults, by which one of several at a word is chosen. No text has a late production any more: one
@@ -126,6 +126,24 @@ wants_bound (Several InFixed f ∷ ws) = true
 wants_bound (Items ∷ ws) = true
 wants_bound ws = false
 
+-- a constant may stand here
+abbrev pub wants_constant : List Wanted → Bool
+wants_constant (Place f ∷ ws) = true
+wants_constant (Tests f ∷ ws) = true
+wants_constant (Tested f p ∷ ws) = true
+wants_constant (Choice f ∷ ws) = true
+wants_constant (Atom t ∷ ws) = true
+wants_constant (ValueFor t ∷ ws) = true
+wants_constant (Several u f ∷ ws) = true
+wants_constant (BoundValue ∷ ws) = true
+wants_constant (Items ∷ ws) = true
+wants_constant ws = false
+
+-- the word is a hole for a variable that the production around does not bind
+abbrev pub is_unfilled : Keyword → State → Bool
+is_unfilled (keyword.Hole variable at) s = not (is_some (number_of variable (values_around s.outer)))
+is_unfilled _ s = false
+
 -- A command sees no variable. (Nor does a value that is wanted for a test, which no text comes to.)
 abbrev pub is_bound : List Wanted → Sym → State → Bool
 is_bound (ValueFor (ToTest f p) ∷ ws) name s = false
@@ -183,7 +201,8 @@ Because fault.UnknownAttribute w ws s = (wants_attribute ws ≡ true) × (is_nam
 Because fault.DeclaredTwice w ws s = (is_name w.kind ≡ true) × (is_declared ws w.name s ≡ true)
 Because fault.TwoVectors w ws s = (is_name w.kind ≡ true) × (gives_second ws w.name s ≡ true)
 Because fault.LateDeclaration w ws s = (wants_form ws ≡ true) × (is_declaration w.keyword ≡ true) × (may_declare s ≡ false)
-Because fault.UnboundVariable w ws s = (wants_bound ws ≡ true) × (is_variable w.kind ≡ true) × (is_bound ws w.name s ≡ false)
+Because fault.UnboundVariable w ws s =
+    ((wants_bound ws ≡ true) × (is_variable w.kind ≡ true) × (is_bound ws w.name s ≡ false)) ⊎ ((wants_constant ws ≡ true) × (is_unfilled w.keyword s ≡ true))
 Because fault.BadDesignator w ws s = is_bad_designator ws w s ≡ true
 Because (fault.LimitPassed limit.Fields) w ws s = is_full ws s ≡ true
 Because (fault.LimitPassed limit.Conditions) w ws s = (wants_condition ws ≡ true) × (is_crowded ws s ≡ true)

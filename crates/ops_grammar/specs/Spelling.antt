@@ -1,6 +1,6 @@
 -- How a program is spelled in words, and which programs have a spelling.
-use Rattle.std.specs.Prelude.{ℕ, zero, suc, ◌-◌, List, [], ◌∷◌, ◌++◌, map, take, length, unwrap_or, slice_get, Bool, true, false, not, ◌&&◌, ◌||◌, ◌==◌, nat_lt, nat_le, if◌then◌else◌, Option, Some, None, is_some, pos}
-use Rattle.std.specs.List.{list_all}
+use Rattle.std.specs.Prelude.{ℕ, zero, suc, ◌+◌, ◌-◌, find, List, [], ◌∷◌, ◌++◌, map, take, length, unwrap_or, slice_get, Bool, true, false, not, ◌&&◌, ◌||◌, ◌==◌, nat_lt, nat_le, if◌then◌else◌, Option, Some, None, is_some, pos}
+use Rattle.std.specs.List.{list_all, flat_map}
 use Rattle.ops_base.specs.declared.values.Sym.{Sym}
 use Rattle.ops_base.specs.declared.values.Value.{Value}
 use Rattle.ops_base.specs.declared.values.Value.TheVariants as value
@@ -29,7 +29,9 @@ use Rattle.ops_base.specs.declared.actions.Item.{Item}
 use Rattle.ops_base.specs.declared.actions.Item.TheVariants as item
 use Rattle.ops_base.specs.declared.actions.Action.{Action}
 use Rattle.ops_base.specs.declared.actions.Action.TheVariants as action
+use Rattle.ops_base.specs.declared.actions.Hole.{Hole}
 use Rattle.ops_base.specs.declared.rules.Rule.{Rule}
+use Rattle.ops_base.specs.Filling.{in_test, in_condition, in_part, in_term, in_put, in_item, in_action, total}
 use Rattle.ops_base.specs.Valid.{most_conditions, are_distinct, class_is_valid, class_of, is_attribute, is_vector, is_field, is_equality, is_in, is_column, is_natural, first_is_positive, cells_of, specificity, fixed_is_valid, elements_of}
 use Rattle.ops_tokens.specs.declared.token.TokenKind.TheVariants as kind
 use Rattle.ops_grammar.specs.declared.words.Word.{Word}
@@ -59,6 +61,15 @@ abbrev pub spelled_value : Value → Word
 spelled_value (value.Whole n) = record { kind = kind.Whole n; keyword = keyword.Other; name = unnamed; first = 0; past = 0 }
 spelled_value (value.Symbol name) = spelled_name name
 
+-- a constant in whose place a variable stands, which is named by its number
+abbrev pub marked : Option Hole → Word → Word
+marked None w = w
+marked (Some h) w = record w { keyword = keyword.Hole (record { 0 = h.variable }) 0 }
+
+-- the constant with this number of a production that has these holes
+abbrev pub spelled_constant : List Hole → ℕ → Value → Word
+spelled_constant hs n v = marked (find (λ h. h.number == n) hs) (spelled_value v)
+
 -- a variable, named by its number
 abbrev pub spelled_variable : ℕ → Word
 spelled_variable n = record { kind = kind.Variable; keyword = keyword.Other; name = record { 0 = n }; first = 0; past = 0 }
@@ -69,6 +80,15 @@ caret = record { kind = kind.Caret; keyword = keyword.Other; name = unnamed; fir
 abbrev pub spelled_each : {X : Type 0} → (X → List Word) → List X → List Word
 spelled_each spelled [] = []
 spelled_each spelled (x ∷ xs) = spelled x ++ spelled_each spelled xs
+
+-- the same, where the first constant of the first has number n
+abbrev pub spelled_counted : {X : Type 0} → (X → ℕ) → (ℕ → X → List Word) → ℕ → List X → List Word
+spelled_counted count spelled n [] = []
+spelled_counted count spelled n (x ∷ xs) = spelled n x ++ spelled_counted count spelled (n + count x) xs
+
+abbrev pub spelled_values : List Hole → ℕ → List Value → List Word
+spelled_values hs n [] = []
+spelled_values hs n (v ∷ vs) = spelled_constant hs n v ∷ spelled_values hs (n + 1) vs
 
 -- ---- declarations
 
@@ -134,7 +154,7 @@ abbrev pub spelled_strategy : Option Strategy → List Word
 spelled_strategy None = []
 spelled_strategy (Some g) = spelled_keyword (keyword_of_strategy g) ∷ []
 
--- ---- left sides
+-- ---- left sides, of a production that has these holes, from the constant with this number on
 
 abbrev pub spelled_operator : Keyword → Word
 spelled_operator k = record { kind = kind.Operator; keyword = k; name = unnamed; first = 0; past = 0 }
@@ -149,10 +169,10 @@ keyword_of_pred pred.Ge = keyword.AtLeast
 keyword_of_pred pred.SameKind = keyword.SameKind
 
 -- PRED constant | PRED VARIABLE | << atom* >>
-abbrev pub spelled_operand : Pred → Operand → List Word
-spelled_operand p (operand.Constant v) = spelled_operator (keyword_of_pred p) ∷ spelled_value v ∷ []
-spelled_operand p (operand.Variable n) = spelled_operator (keyword_of_pred p) ∷ spelled_variable n ∷ []
-spelled_operand p (operand.OneOf vs) = spelled_operator keyword.OpenChoice ∷ map spelled_value vs ++ spelled_operator keyword.CloseChoice ∷ []
+abbrev pub spelled_operand : List Hole → ℕ → Pred → Operand → List Word
+spelled_operand hs n p (operand.Constant v) = spelled_operator (keyword_of_pred p) ∷ spelled_constant hs n v ∷ []
+spelled_operand hs n p (operand.Variable v) = spelled_operator (keyword_of_pred p) ∷ spelled_variable v ∷ []
+spelled_operand hs n p (operand.OneOf vs) = spelled_operator keyword.OpenChoice ∷ spelled_values hs n vs ++ spelled_operator keyword.CloseChoice ∷ []
 
 abbrev pub opening_brace : Word
 opening_brace = record { kind = kind.LeftBrace; keyword = keyword.Other; name = unnamed; first = 0; past = 0 }
@@ -169,34 +189,38 @@ untested (suc n) = opening_brace ∷ closing_brace ∷ untested n
 abbrev pub attribute_of : Class → ℕ → ℕ
 attribute_of c f = if is_attribute c f then f else last_field c
 
-abbrev pub spelled_test : Class → Test → List Word
-spelled_test c t =
-    spelled_attribute c (attribute_of c t.field) (untested (t.field - last_field c) ++ spelled_operand t.pred t.operand)
+abbrev pub spelled_test : List Hole → Class → ℕ → Test → List Word
+spelled_test hs c n t =
+    spelled_attribute c (attribute_of c t.field) (untested (t.field - last_field c) ++ spelled_operand hs n t.pred t.operand)
 
 -- ( CLASS term* )
-abbrev pub spelled_pattern : Class → List Test → List Word
-spelled_pattern c tests = spelled_name c.name ∷ spelled_each (spelled_test c) tests ++ closing ∷ []
+abbrev pub spelled_pattern : List Hole → ℕ → Class → List Test → List Word
+spelled_pattern hs n c tests = spelled_name c.name ∷ spelled_counted in_test (spelled_test hs c) n tests ++ closing ∷ []
 
 -- - pattern | { VARIABLE pattern }, where the element variable is named by its cell
-abbrev pub spelled_condition : List Class → ℕ → Condition → List Word
-spelled_condition classes cell c =
-    if c.negated then spelled_operator keyword.Minus ∷ opening ∷ spelled_pattern (class_of classes c.class) c.tests
-    else opening_brace ∷ spelled_variable cell ∷ opening ∷ spelled_pattern (class_of classes c.class) c.tests ++ closing_brace ∷ []
+abbrev pub spelled_condition : List Hole → ℕ → List Class → ℕ → Condition → List Word
+spelled_condition hs n classes cell c =
+    if c.negated then spelled_operator keyword.Minus ∷ opening ∷ spelled_pattern hs n (class_of classes c.class) c.tests
+    else opening_brace ∷ spelled_variable cell ∷ opening ∷ spelled_pattern hs n (class_of classes c.class) c.tests ++ closing_brace ∷ []
+
+-- pattern
+abbrev pub spelled_member : List Hole → List Class → ℕ → Condition → List Word
+spelled_member hs classes n c = opening ∷ spelled_pattern hs n (class_of classes c.class) c.tests
 
 -- - { pattern pattern pattern* }
-abbrev pub spelled_group : List Class → List Condition → List Word
-spelled_group classes cs =
-    spelled_operator keyword.GroupMinus ∷ opening_brace ∷ spelled_each (λ c. opening ∷ spelled_pattern (class_of classes c.class) c.tests) cs ++ closing_brace ∷ []
+abbrev pub spelled_group : List Hole → ℕ → List Class → List Condition → List Word
+spelled_group hs n classes cs =
+    spelled_operator keyword.GroupMinus ∷ opening_brace ∷ spelled_counted in_condition (spelled_member hs classes) n cs ++ closing_brace ∷ []
 
-abbrev pub spelled_part : List Class → ℕ → Part → List Word
-spelled_part classes cell (One c) = spelled_condition classes cell c
-spelled_part classes cell (Group cs) = spelled_group classes cs
+abbrev pub spelled_part : List Hole → ℕ → List Class → ℕ → Part → List Word
+spelled_part hs n classes cell (One c) = spelled_condition hs n classes cell c
+spelled_part hs n classes cell (Group cs) = spelled_group hs n classes cs
 
 -- parts, of which the next positive condition has that cell
-abbrev pub spelled_conditions : List Class → ℕ → List Part → List Word
-spelled_conditions classes cell [] = []
-spelled_conditions classes cell (p ∷ ps) =
-    spelled_part classes cell p ++ spelled_conditions classes (if is_absent p then cell else suc cell) ps
+abbrev pub spelled_conditions : List Hole → ℕ → List Class → ℕ → List Part → List Word
+spelled_conditions hs n classes cell [] = []
+spelled_conditions hs n classes cell (p ∷ ps) =
+    spelled_part hs n classes cell p ++ spelled_conditions hs (n + in_part p) classes (if is_absent p then cell else suc cell) ps
 
 -- the numbers of the variables in sight, in the order in which they came, and how many were given
 pub record Numbered : Type 0 where
@@ -263,15 +287,17 @@ nothing_numbered = record { sight = []; given = 0 }
 
 -- ---- right sides
 
--- what is in sight in a right side: the variables, the class of each cell, and that of the element made last
+-- what is in sight in a right side: the variables, the class of each cell, and that of the element made last; and whether
+-- the production is built by another
 pub record InSight : Type 0 where
+  pub built : Bool
   pub variables : Numbered
   pub cells : List ℕ
   pub made : Option ℕ
 
 -- after the arrow
-abbrev pub at_arrow : List Part → InSight
-at_arrow conditions = record { variables = after_conditions nothing_numbered conditions; cells = cells_of conditions; made = None }
+abbrev pub at_arrow : Bool → List Part → InSight
+at_arrow built conditions = record { built = built; variables = after_conditions nothing_numbered conditions; cells = cells_of conditions; made = None }
 
 abbrev pub class_of_cell : InSight → ℕ → ℕ
 class_of_cell k cell = unwrap_or (slice_get k.cells cell) 0
@@ -322,52 +348,55 @@ spelled_call k = opening ∷ spelled_keyword k ∷ closing ∷ []
 
 -- rconstant | VARIABLE | ( compute expr ) | ( genatom ) | ( accept ) | ( substr VARIABLE ATTR ATTR ) | ( substr
 -- VARIABLE ATTR inf )
-abbrev pub spelled_term : List Class → InSight → Term → List Word
-spelled_term classes k (term.Constant v) = spelled_value v ∷ []
-spelled_term classes k (term.Variable n) = spelled_variable n ∷ []
-spelled_term classes k (term.One cell field) =
+abbrev pub spelled_term : List Hole → List Class → InSight → ℕ → Term → List Word
+spelled_term hs classes k n (term.Constant v) = spelled_constant hs n v ∷ []
+spelled_term hs classes k n (term.Variable v) = spelled_variable v ∷ []
+spelled_term hs classes k n (term.One cell field) =
     let c = class_of classes (class_of_cell k cell) in spelled_substr c cell field (spelled_name (attribute_name c field))
-spelled_term classes k (term.Rest cell) =
+spelled_term hs classes k n (term.Rest cell) =
     let c = class_of classes (class_of_cell k cell) in spelled_substr c cell (last_field c) (spelled_keyword keyword.Inf)
-spelled_term classes k (term.Compute f) = opening ∷ spelled_keyword keyword.Compute ∷ spelled_formula false f ++ closing ∷ []
-spelled_term classes k term.Fresh = spelled_call keyword.Genatom
-spelled_term classes k term.Accept = spelled_call keyword.Accept
+spelled_term hs classes k n (term.Compute f) = opening ∷ spelled_keyword keyword.Compute ∷ spelled_formula false f ++ closing ∷ []
+spelled_term hs classes k n term.Fresh = spelled_call keyword.Genatom
+spelled_term hs classes k n term.Accept = spelled_call keyword.Accept
 
-abbrev pub spelled_put : List Class → InSight → Class → Put → List Word
-spelled_put classes k c p = spelled_attribute c p.field (spelled_each (spelled_term classes k) p.terms)
+abbrev pub spelled_terms : List Hole → List Class → InSight → ℕ → List Term → List Word
+spelled_terms hs classes k n terms = spelled_counted in_term (spelled_term hs classes k) n terms
+
+abbrev pub spelled_put : List Hole → List Class → InSight → Class → ℕ → Put → List Word
+spelled_put hs classes k c n p = spelled_attribute c p.field (spelled_terms hs classes k n p.terms)
 
 -- ( KEYWORD SMALL )
 abbrev pub spelled_columns : Keyword → ℕ → List Word
 spelled_columns k n = opening ∷ spelled_keyword k ∷ spelled_value (value.Whole (pos n)) ∷ closing ∷ []
 
-abbrev pub spelled_item : List Class → InSight → Item → List Word
-spelled_item classes k (item.Print t) = spelled_term classes k t
-spelled_item classes k item.Crlf = opening ∷ spelled_keyword keyword.Crlf ∷ closing ∷ []
-spelled_item classes k (item.TabTo n) = spelled_columns keyword.Tabto n
-spelled_item classes k (item.RightIn n) = spelled_columns keyword.Rjust n
+abbrev pub spelled_item : List Hole → List Class → InSight → ℕ → Item → List Word
+spelled_item hs classes k n (item.Print t) = spelled_term hs classes k n t
+spelled_item hs classes k n item.Crlf = opening ∷ spelled_keyword keyword.Crlf ∷ closing ∷ []
+spelled_item hs classes k n (item.TabTo m) = spelled_columns keyword.Tabto m
+spelled_item hs classes k n (item.RightIn m) = spelled_columns keyword.Rjust m
 
 -- put*
-abbrev pub spelled_puts : List Class → InSight → Class → List Put → List Word
-spelled_puts classes k c puts = spelled_each (spelled_put classes k c) puts
+abbrev pub spelled_puts : List Hole → List Class → InSight → Class → ℕ → List Put → List Word
+spelled_puts hs classes k c n puts = spelled_counted in_put (spelled_put hs classes k c) n puts
 
 -- ( make CLASS put* ) | ( modify VARIABLE put* ) | ( remove VARIABLE VARIABLE* ) | ( write item* ) | ( bind VARIABLE value )
--- | ( cbind VARIABLE ) | ( halt ), where an element variable is named by its cell
-abbrev pub spelled_action : List Class → InSight → Action → List Word
-spelled_action classes k (action.Make class puts) =
-    opening ∷ spelled_keyword keyword.Make ∷ spelled_name (class_of classes class).name ∷ spelled_puts classes k (class_of classes class) puts ++ closing ∷ []
-spelled_action classes k (action.Modify cell puts) =
-    opening ∷ spelled_keyword keyword.Modify ∷ spelled_variable cell ∷ spelled_puts classes k (class_of classes (class_of_cell k cell)) puts ++ closing ∷ []
-spelled_action classes k (action.Remove cells) = opening ∷ spelled_keyword keyword.Remove ∷ map spelled_variable cells ++ closing ∷ []
-spelled_action classes k (action.Write items) = opening ∷ spelled_keyword keyword.Write ∷ spelled_each (spelled_item classes k) items ++ closing ∷ []
-spelled_action classes k (action.Bind variable t) = opening ∷ spelled_keyword keyword.Bind ∷ spelled_variable variable ∷ spelled_term classes k t ++ closing ∷ []
-spelled_action classes k (action.Cbind cell) = opening ∷ spelled_keyword keyword.Cbind ∷ spelled_variable cell ∷ closing ∷ []
-spelled_action classes k action.Halt = opening ∷ spelled_keyword keyword.Halt ∷ closing ∷ []
--- no text reads as one
-spelled_action classes k (action.Build template holes) = []
+-- | ( cbind VARIABLE ) | ( halt ), where an element variable is named by its cell, and a `build` is spelled so
+abbrev pub spelled_action : (ℕ → List Hole → List Word) → List Hole → List Class → InSight → ℕ → Action → List Word
+spelled_action build hs classes k n (action.Make class puts) =
+    opening ∷ spelled_keyword keyword.Make ∷ spelled_name (class_of classes class).name ∷ spelled_puts hs classes k (class_of classes class) n puts ++ closing ∷ []
+spelled_action build hs classes k n (action.Modify cell puts) =
+    opening ∷ spelled_keyword keyword.Modify ∷ spelled_variable cell ∷ spelled_puts hs classes k (class_of classes (class_of_cell k cell)) n puts ++ closing ∷ []
+spelled_action build hs classes k n (action.Remove cells) = opening ∷ spelled_keyword keyword.Remove ∷ map spelled_variable cells ++ closing ∷ []
+spelled_action build hs classes k n (action.Write items) = opening ∷ spelled_keyword keyword.Write ∷ spelled_counted in_item (spelled_item hs classes k) n items ++ closing ∷ []
+spelled_action build hs classes k n (action.Bind variable t) = opening ∷ spelled_keyword keyword.Bind ∷ spelled_variable variable ∷ spelled_term hs classes k n t ++ closing ∷ []
+spelled_action build hs classes k n (action.Cbind cell) = opening ∷ spelled_keyword keyword.Cbind ∷ spelled_variable cell ∷ closing ∷ []
+spelled_action build hs classes k n action.Halt = opening ∷ spelled_keyword keyword.Halt ∷ closing ∷ []
+spelled_action build hs classes k n (action.Build template holes) = build template holes
 
-abbrev pub spelled_actions : List Class → InSight → List Action → List Word
-spelled_actions classes k [] = []
-spelled_actions classes k (a ∷ rest) = spelled_action classes k a ++ spelled_actions classes (after_action k a) rest
+abbrev pub spelled_actions : (ℕ → List Hole → List Word) → List Hole → List Class → InSight → ℕ → List Action → List Word
+spelled_actions build hs classes k n [] = []
+spelled_actions build hs classes k n (a ∷ rest) =
+    spelled_action build hs classes k n a ++ spelled_actions build hs classes (after_action k a) (n + in_action a) rest
 
 -- the cell is there, of a class that is there
 abbrev pub cell_is_plain : List Class → InSight → ℕ → Bool
@@ -387,7 +416,7 @@ term_is_plain classes k several (term.Constant v) = true
 term_is_plain classes k several (term.Variable n) = is_in n k.variables.sight
 term_is_plain classes k several (term.One cell field) = cell_is_plain classes k cell && is_attribute (class_of classes (class_of_cell k cell)) field
 term_is_plain classes k several (term.Rest cell) = several && cell_is_plain classes k cell && (class_of classes (class_of_cell k cell)).vector
-term_is_plain classes k several (term.Compute f) = nests_within function_depth false f && all_variables (λ n. is_in n k.variables.sight) f
+term_is_plain classes k several (term.Compute f) = nests_within (function_depth k.built) false f && all_variables (λ n. is_in n k.variables.sight) f
 term_is_plain classes k several term.Fresh = true
 term_is_plain classes k several term.Accept = true
 
@@ -405,61 +434,125 @@ item_is_plain classes k (item.RightIn n) = is_column n
 abbrev pub can_be_bound : Numbered → ℕ → Bool
 can_be_bound k n = is_in n k.sight || (n == k.given)
 
-abbrev pub action_is_plain : List Class → InSight → Action → Bool
-action_is_plain classes k (action.Make class puts) =
+-- a `build` is plain by this
+abbrev pub action_is_plain : (InSight → ℕ → List Hole → Bool) → List Class → InSight → Action → Bool
+action_is_plain builds classes k (action.Make class puts) =
     nat_lt class (length classes) && list_all (put_is_plain classes k (class_of classes class)) puts
-action_is_plain classes k (action.Modify cell puts) =
+action_is_plain builds classes k (action.Modify cell puts) =
     cell_is_plain classes k cell && list_all (put_is_plain classes k (class_of classes (class_of_cell k cell))) puts
-action_is_plain classes k (action.Remove cells) = nat_lt 0 (length cells) && list_all (λ c. nat_lt c (length k.cells)) cells
-action_is_plain classes k (action.Write items) = list_all (item_is_plain classes k) items
-action_is_plain classes k (action.Bind variable t) = can_be_bound k.variables variable && term_is_plain classes k false t
-action_is_plain classes k (action.Cbind cell) = is_some k.made && (cell == length k.cells)
-action_is_plain classes k action.Halt = true
-action_is_plain classes k (action.Build template holes) = false
+action_is_plain builds classes k (action.Remove cells) = nat_lt 0 (length cells) && list_all (λ c. nat_lt c (length k.cells)) cells
+action_is_plain builds classes k (action.Write items) = list_all (item_is_plain classes k) items
+action_is_plain builds classes k (action.Bind variable t) = can_be_bound k.variables variable && term_is_plain classes k false t
+action_is_plain builds classes k (action.Cbind cell) = is_some k.made && (cell == length k.cells)
+action_is_plain builds classes k action.Halt = true
+action_is_plain builds classes k (action.Build template holes) = builds k template holes
 
-abbrev pub actions_are_plain : List Class → InSight → List Action → Bool
-actions_are_plain classes k [] = true
-actions_are_plain classes k (a ∷ rest) = action_is_plain classes k a && actions_are_plain classes (after_action k a) rest
+abbrev pub actions_are_plain : (InSight → ℕ → List Hole → Bool) → List Class → InSight → List Action → Bool
+actions_are_plain builds classes k [] = true
+actions_are_plain builds classes k (a ∷ rest) = action_is_plain builds classes k a && actions_are_plain builds classes (after_action k a) rest
 
 -- ---- productions
 
 abbrev pub arrow : Word
 arrow = record { kind = kind.Operator; keyword = keyword.Arrow; name = unnamed; first = 0; past = 0 }
 
--- ( p NAME first condition* --> action* ), at the place of the rule
-abbrev pub spelled_rule : List Class → Rule → List Word
-spelled_rule classes r =
-    record opening { first = r.first } ∷ spelled_keyword keyword.Production ∷ spelled_name r.name ∷ spelled_conditions classes 0 r.conditions
-    ++ arrow ∷ spelled_actions classes (at_arrow r.conditions) r.actions
+-- NAME first condition* --> action* ), at the place of the rule
+abbrev pub spelled_sides : (ℕ → List Hole → List Word) → Bool → List Hole → List Class → Rule → List Word
+spelled_sides build built hs classes r =
+    spelled_name r.name ∷ spelled_conditions hs 0 classes 0 r.conditions
+    ++ arrow ∷ spelled_actions build hs classes (at_arrow built r.conditions) (total in_part r.conditions) r.actions
     ++ record closing { past = r.past } ∷ []
 
-abbrev pub rule_is_plain : List Class → Rule → Bool
-rule_is_plain classes r =
+-- a production that is built builds none
+abbrev pub spelled_no_build : ℕ → List Hole → List Word
+spelled_no_build template holes = []
+
+-- ( build NAME first condition* --> action* ), which has these holes
+abbrev pub spelled_template : List Class → List Hole → Option Rule → List Word
+spelled_template classes holes None = []
+spelled_template classes holes (Some r) =
+    record opening { first = r.first } ∷ spelled_keyword keyword.Build ∷ spelled_sides spelled_no_build true holes classes r
+
+abbrev pub spelled_build : List Class → List Rule → ℕ → List Hole → List Word
+spelled_build classes templates template holes = spelled_template classes holes (slice_get templates template)
+
+-- ( p NAME first condition* --> action* )
+abbrev pub spelled_rule : List Class → List Rule → Rule → List Word
+spelled_rule classes templates r =
+    record opening { first = r.first } ∷ spelled_keyword keyword.Production ∷ spelled_sides (spelled_build classes templates) false [] classes r
+
+abbrev pub rule_is_plain_by : (InSight → ℕ → List Hole → Bool) → Bool → List Class → Rule → Bool
+rule_is_plain_by builds built classes r =
     first_is_positive r.conditions && nat_le (length (elements_of r.conditions)) most_conditions && conditions_are_plain classes nothing_numbered r.conditions
-    && actions_are_plain classes (at_arrow r.conditions) r.actions
-    && (r.variables == (after_actions (at_arrow r.conditions) r.actions).variables.given) && (r.specificity == specificity r.conditions)
-    && (r.cells == length (after_actions (at_arrow r.conditions) r.actions).cells)
+    && actions_are_plain builds classes (at_arrow built r.conditions) r.actions
+    && (r.variables == (after_actions (at_arrow built r.conditions) r.actions).variables.given) && (r.specificity == specificity r.conditions)
+    && (r.cells == length (after_actions (at_arrow built r.conditions) r.actions).cells)
+
+-- a production that builds none
+abbrev pub builds_none : InSight → ℕ → List Hole → Bool
+builds_none k template holes = false
+
+-- how many constants a production has
+abbrev pub constants_of : Rule → ℕ
+constants_of r = total in_part r.conditions + total in_action r.actions
+
+-- holes for variables in sight, in order, with numbers from n up to below m
+abbrev pub holes_are_plain : List ℕ → ℕ → ℕ → List Hole → Bool
+holes_are_plain sight n m [] = true
+holes_are_plain sight n m (h ∷ hs) =
+    nat_le n h.number && nat_lt h.number m && is_in h.variable sight && holes_are_plain sight (suc h.number) m hs
+
+abbrev pub template_is_plain : List Class → List ℕ → List Hole → Option Rule → Bool
+template_is_plain classes sight holes None = false
+template_is_plain classes sight holes (Some r) = rule_is_plain_by builds_none true classes r && holes_are_plain sight 0 (constants_of r) holes
+
+abbrev pub build_is_plain : List Class → List Rule → InSight → ℕ → List Hole → Bool
+build_is_plain classes templates k template holes = template_is_plain classes k.variables.sight holes (slice_get templates template)
+
+abbrev pub rule_is_plain : List Class → List Rule → Rule → Bool
+rule_is_plain classes templates r = rule_is_plain_by (build_is_plain classes templates) false classes r
+
+-- the number of the template from which an action builds
+abbrev pub template_of : Action → List ℕ
+template_of (action.Build template holes) = template ∷ []
+template_of _ = []
+
+-- the numbers of the templates from which actions build
+abbrev pub templates_in : List Action → List ℕ
+templates_in actions = flat_map template_of actions
+
+abbrev pub templates_by : List Rule → List ℕ
+templates_by rules = flat_map (λ r. templates_in r.actions) rules
+
+-- these are the numbers from n on
+abbrev pub are_next : ℕ → List ℕ → Bool
+are_next n [] = true
+are_next n (m ∷ ms) = (m == n) && are_next (suc n) ms
+
+-- each template has one action that builds from it, in order
+abbrev pub builds_in_order : List Rule → List Rule → Bool
+builds_in_order rules templates = are_next 0 (templates_by rules) && (length (templates_by rules) == length templates)
 
 -- ---- programs
 
 -- a production that is added is spelled as any other
-abbrev pub spelled_command : List Class → Command → List Word
-spelled_command classes (command.Make class puts) = spelled_fact (class_of classes class) puts
-spelled_command classes (command.Remove tags) = spelled_short keyword.Remove (spelled_tags tags)
-spelled_command classes command.RemoveAll = spelled_short keyword.Remove (spelled_keyword keyword.Times ∷ [])
-spelled_command classes (command.Run count) = spelled_short keyword.Run (spelled_count count)
-spelled_command classes (command.Wm tags) = spelled_short keyword.Wm (spelled_tags tags)
-spelled_command classes (command.Ppwm pattern) = spelled_short keyword.Ppwm (spelled_shown classes pattern)
-spelled_command classes command.Cs = spelled_short keyword.Cs []
-spelled_command classes (command.Pm names) = spelled_short keyword.Pm (map spelled_name names)
-spelled_command classes (command.Strategy set) = spelled_short keyword.Strategy (spelled_strategy set)
-spelled_command classes (command.Watch set) = spelled_short keyword.Watch (spelled_count set)
-spelled_command classes (command.Pbreak names) = spelled_short keyword.Pbreak (map spelled_name names)
-spelled_command classes command.Exit = spelled_short keyword.Exit []
-spelled_command classes (command.Add r) = spelled_rule classes r
-spelled_command classes (command.Excise names) = spelled_short keyword.Excise (map spelled_name names)
-spelled_command classes (command.Matches names) = spelled_short keyword.Matches (map spelled_name names)
-spelled_command classes (command.Back count) = spelled_short keyword.Back (spelled_count (Some count))
+abbrev pub spelled_command : List Class → List Rule → Command → List Word
+spelled_command classes templates (command.Make class puts) = spelled_fact (class_of classes class) puts
+spelled_command classes templates (command.Remove tags) = spelled_short keyword.Remove (spelled_tags tags)
+spelled_command classes templates command.RemoveAll = spelled_short keyword.Remove (spelled_keyword keyword.Times ∷ [])
+spelled_command classes templates (command.Run count) = spelled_short keyword.Run (spelled_count count)
+spelled_command classes templates (command.Wm tags) = spelled_short keyword.Wm (spelled_tags tags)
+spelled_command classes templates (command.Ppwm pattern) = spelled_short keyword.Ppwm (spelled_shown classes pattern)
+spelled_command classes templates command.Cs = spelled_short keyword.Cs []
+spelled_command classes templates (command.Pm names) = spelled_short keyword.Pm (map spelled_name names)
+spelled_command classes templates (command.Strategy set) = spelled_short keyword.Strategy (spelled_strategy set)
+spelled_command classes templates (command.Watch set) = spelled_short keyword.Watch (spelled_count set)
+spelled_command classes templates (command.Pbreak names) = spelled_short keyword.Pbreak (map spelled_name names)
+spelled_command classes templates command.Exit = spelled_short keyword.Exit []
+spelled_command classes templates (command.Add r) = spelled_rule classes templates r
+spelled_command classes templates (command.Excise names) = spelled_short keyword.Excise (map spelled_name names)
+spelled_command classes templates (command.Matches names) = spelled_short keyword.Matches (map spelled_name names)
+spelled_command classes templates (command.Back count) = spelled_short keyword.Back (spelled_count (Some count))
 
 -- the names of the classes' vector attributes
 abbrev pub vectors_of : List Class → List Sym
@@ -478,26 +571,26 @@ class_is_plain vectors c = class_is_valid c && list_all (λ a. not (is_one_of a 
 abbrev pub constants_are_plain : List Class → ℕ → List Fixed → Bool
 constants_are_plain classes class puts = nat_lt class (length classes) && list_all (fixed_is_valid (class_of classes class)) puts
 
-abbrev pub command_is_plain : List Class → Command → Bool
-command_is_plain classes (command.Make class puts) = constants_are_plain classes class puts
-command_is_plain classes (command.Remove tags) = nat_lt 0 (length tags) && list_all is_natural tags
-command_is_plain classes (command.Run None) = true
-command_is_plain classes (command.Run (Some n)) = is_natural n
-command_is_plain classes (command.Wm tags) = list_all is_natural tags
-command_is_plain classes (command.Ppwm None) = true
-command_is_plain classes (command.Ppwm (Some p)) = constants_are_plain classes p.0 p.1
-command_is_plain classes (command.Pm names) = nat_lt 0 (length names)
-command_is_plain classes (command.Watch None) = true
-command_is_plain classes (command.Watch (Some n)) = nat_le n 2
-command_is_plain classes command.RemoveAll = true
-command_is_plain classes command.Cs = true
-command_is_plain classes (command.Strategy set) = true
-command_is_plain classes (command.Pbreak names) = true
-command_is_plain classes command.Exit = true
-command_is_plain classes (command.Add r) = rule_is_plain classes r
-command_is_plain classes (command.Excise names) = nat_lt 0 (length names)
-command_is_plain classes (command.Matches names) = nat_lt 0 (length names)
-command_is_plain classes (command.Back count) = nat_le 1 count && nat_le count 32
+abbrev pub command_is_plain : List Class → List Rule → Command → Bool
+command_is_plain classes templates (command.Make class puts) = constants_are_plain classes class puts
+command_is_plain classes templates (command.Remove tags) = nat_lt 0 (length tags) && list_all is_natural tags
+command_is_plain classes templates (command.Run None) = true
+command_is_plain classes templates (command.Run (Some n)) = is_natural n
+command_is_plain classes templates (command.Wm tags) = list_all is_natural tags
+command_is_plain classes templates (command.Ppwm None) = true
+command_is_plain classes templates (command.Ppwm (Some p)) = constants_are_plain classes p.0 p.1
+command_is_plain classes templates (command.Pm names) = nat_lt 0 (length names)
+command_is_plain classes templates (command.Watch None) = true
+command_is_plain classes templates (command.Watch (Some n)) = nat_le n 2
+command_is_plain classes templates command.RemoveAll = true
+command_is_plain classes templates command.Cs = true
+command_is_plain classes templates (command.Strategy set) = true
+command_is_plain classes templates (command.Pbreak names) = true
+command_is_plain classes templates command.Exit = true
+command_is_plain classes templates (command.Add r) = rule_is_plain classes templates r
+command_is_plain classes templates (command.Excise names) = nat_lt 0 (length names)
+command_is_plain classes templates (command.Matches names) = nat_lt 0 (length names)
+command_is_plain classes templates (command.Back count) = nat_le 1 count && nat_le count 32
 
 -- none of the productions has the name of another, whether it stands at the beginning or is added
 abbrev pub titles_are_distinct : List Rule → List Command → Bool
@@ -513,11 +606,13 @@ adds_late [] = true
 adds_late (c ∷ cs) = not (is_add c) && (if precedes_rules c then adds_late cs else true)
 
 -- the program has a spelling
-abbrev pub is_plain : List Class → List Rule → List Command → Bool
-is_plain classes rules commands =
-    list_all (class_is_plain (vectors_of classes)) classes && list_all (rule_is_plain classes) rules && list_all (command_is_plain classes) commands
-    && are_distinct (map (λ c. c.name.0) classes) && titles_are_distinct rules commands && adds_late commands
+abbrev pub is_plain : List Class → List Rule → List Rule → List Command → Bool
+is_plain classes rules templates commands =
+    list_all (class_is_plain (vectors_of classes)) classes && list_all (rule_is_plain classes templates) rules
+    && list_all (command_is_plain classes templates) commands && are_distinct (map (λ c. c.name.0) classes)
+    && titles_are_distinct rules commands && adds_late commands && builds_in_order (rules ++ added_by commands) templates
 
-abbrev pub spelled_program : List Class → List Rule → List Command → List Word
-spelled_program classes rules commands =
-    spelled_each spelled_vector classes ++ spelled_each spelled_class classes ++ spelled_each (spelled_rule classes) rules ++ spelled_each (spelled_command classes) commands
+abbrev pub spelled_program : List Class → List Rule → List Rule → List Command → List Word
+spelled_program classes rules templates commands =
+    spelled_each spelled_vector classes ++ spelled_each spelled_class classes ++ spelled_each (spelled_rule classes templates) rules
+    ++ spelled_each (spelled_command classes templates) commands

@@ -9,14 +9,14 @@ use Rattle.ops_base.specs.Names.{only_nil}
 use Rattle.ops_base.specs.Valid.{longest_list}
 use Rattle.ops_tokens.specs.declared.token.LexFault.{LexFault}
 use Rattle.ops_grammar.specs.declared.words.Word.{Word}
-use Rattle.ops_grammar.specs.Words.{lexed, words_from}
+use Rattle.ops_grammar.specs.Words.{lexed, tokens_of, words_from}
 use Rattle.ops_grammar.specs.Grammar.{Wanted, Forms, State, Outcome, goes, nothing_read}
 use Rattle.ops_grammar.specs.Derivation.{IsText, is_no_form}
-use Rattle.ops_grammar.specs.Reads.{Placed, cut_off, between_forms}
+use Rattle.ops_grammar.specs.Reads.{Placed, stands_at, cut_off, between_forms}
 use Rattle.ops_grammar.specs.Reasons.{fault_number, Because}
 
 abbrev pub words_of : List ℕ → List Word
-words_of text = words_from text only_nil (lexed text).tokens
+words_of text = words_from text only_nil (tokens_of text)
 
 -- what words are read as
 abbrev pub outcome_of : List Word → Outcome
@@ -53,7 +53,7 @@ pub record StandsAtWord (text : List ℕ) (p : Placed) : Type 0 where
   pub word : Word
   pub behind : List Word
   pub words : words_of text ≡ before ++ word ∷ behind
-  pub place : p.at ≡ word.first
+  pub place : p.at ≡ stands_at p.fault word
   pub stands : StandsAt p.fault before word
 
 -- The fault stands where the words end: all of them are taken. Where they are a text, what stops the tokens stands between
@@ -74,9 +74,10 @@ IsReadOrInForm (Err (f, Some w)) = is_no_form f ≡ false
 IsReadOrInForm (Err (f, None)) = ⊥
 
 -- the words are read as this program
-pub record AreRead (words : List Word) (classes : List Class) (rules : List Rule) (commands : List Command) : Type 0 where
+pub record AreRead (words : List Word) (classes : List Class) (rules templates : List Rule) (commands : List Command) : Type 0 where
   pub state : State
   pub outcome : outcome_of words ≡ Ok state
   pub classes_are : state.classes ≡ classes
   pub rules_are : state.rules ≡ rules
+  pub templates_are : state.templates ≡ templates
   pub commands_are : state.commands ≡ commands

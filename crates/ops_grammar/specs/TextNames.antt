@@ -3,12 +3,13 @@ use Rattle.std.specs.Prelude.{◌≡◌, ◌↔◌, ◌⊎◌, ℕ, List, true, 
 use Rattle.ops_base.specs.Names.{Spellings}
 use Rattle.ops_tokens.specs.declared.token.Token.{Token}
 use Rattle.ops_tokens.specs.Tokens.{spelling}
-use Rattle.ops_grammar.specs.Words.{lexed, has_name}
+use Rattle.ops_grammar.specs.Words.{tokens_of, has_name}
 
--- a token of the text that has a name is spelled so: a symbol, a quoted name, a variable or an operator
+-- A token of the text that has a name is spelled so: a symbol, a quoted name, a variable or an operator. A `\\` with the
+-- variable after it is one, inside a `build`.
 pub record IsNameIn (text : List ℕ) (s : List ℕ) : Type 0 where
   pub token : Token
-  pub stands : Contains (lexed text).tokens token
+  pub stands : Contains (tokens_of text) token
   pub named : has_name token.kind ≡ true
   pub spelled : spelling text token ≡ s
 

@@ -4,4 +4,4 @@
 
 pub mod words;
 
-pub use words::{Keyword, Named, Word};
+pub use words::{Keyword, Named, Region, Within, Word};

@@ -65,6 +65,8 @@ pub enum Keyword {
     Inf,
     /// `halt`
     Halt,
+    /// `build`
+    Build,
     /// `compute`
     Compute,
     /// `genatom`
@@ -103,6 +105,9 @@ pub enum Keyword {
     Minus,
     /// `-` right before a brace, as it begins a group.
     GroupMinus,
+    /// A `\\` or `\` with the variable after it, inside a `build`: the variable's name, and its first byte. The word is
+    /// spelled as the quoted token that they are together. As a constant it stands for the variable's value.
+    Hole { variable: Sym, at: usize },
     /// A word of any other spelling, or one that is no plain symbol and no operator.
     Other,
 }
@@ -122,4 +127,27 @@ pub struct Word {
 pub struct Named {
     pub name: Sym,
     pub number: usize,
+}
+
+/// What a token stands in.
+#[derive(Clone, Copy, Debug, PartialEq, Eq)]
+pub enum Within {
+    /// Before the arrow of a production, in another form, or in none.
+    Front,
+    /// Among the actions of a production.
+    Actions,
+    /// In a `build` of these, before its arrow.
+    Build,
+    /// The same, after its arrow.
+    Built,
+    /// In a `compute` of a `build`, in which this many brackets are open.
+    Compute(usize),
+}
+
+/// How many brackets are open before a token, whether the token before it opened one, and what it stands in.
+#[derive(Clone, Copy, Debug, PartialEq, Eq)]
+pub struct Region {
+    pub depth: usize,
+    pub opened: bool,
+    pub within: Within,
 }

@@ -1,35 +1,76 @@
 -- Steps of the walk over a left side, in every state around it.
-use Rattle.std.proofs.Common.{◌≡◌, ℕ, ◌≤◌, false, ◌||◌, List, ◌∷◌, take, Result, Ok, Err, refl, ◌∙◌, arith}
-use Rattle.ops_base.specs.declared.elements.Class.{Class}
+use Rattle.std.proofs.Common.{◌≡◌, ℕ, false, ◌||◌, List, ◌∷◌, ◌++◌, Option, Some, None, Result, Ok, Err, refl, sym, ap, ◌∙◌, subst}
+use Rattle.ops_base.specs.declared.values.Value.{Value}
+use Rattle.ops_base.specs.declared.values.Pred.{Pred}
 use Rattle.ops_grammar.specs.declared.words.Word.{Word}
-use Rattle.ops_grammar.specs.Grammar.{Use, InPattern, Wanted, Terms, Several, State, after, step, is_right, is_caret, one_of_several}
+use Rattle.ops_grammar.specs.Grammar.{Use, Wanted, ToTest, Several, Atom, Choice, State, Step, Next, after, step, goes, is_right, is_caret, is_literal, closes_choice, constant_of, atom_of, constant_by, with_constant, with_choice_of, tested, one_of_several}
 use Rattle.ops_forms.specs.declared.refusals.Refusal.{Refusal}
+use Rattle.ops_forms.specs.declared.refusals.Refusal.TheVariants as refusal
+use Rattle.ops_forms.specs.PlaceWalks.{FailsAmong, Onward, goes_onward}
+use Rattle.ops_lhs.specs.declared.around.Around.{Around}
 use Rattle.ops_lhs.specs.declared.left.Left.{Left}
-use Rattle.ops_forms.specs.PlaceWalks.{Way, GoesOn, CutGoesOn, CutWay, Onward, goes_onward, IsFrom}
-use Rattle.ops_forms.proofs.Walks.{fails_under, fails_anywhere}
-use Rattle.ops_lhs.specs.Taking.{seen, GoesToTerms, Among, GoesToTermsAmong, PeekGoesToTerms, PeekGoesToTermsAmong}
+use Rattle.ops_lhs.specs.Taking.{seen, view, IsAround, BeginsConstant}
 
--- ---- where these classes are declared
+-- ---- constants, which may be holes
 
--- more of a pattern after places
-pub terms_as_among : (classes : List Class) (from by : Way) → ((more : List Word) (ws : List Wanted) (s : State) → s.classes ≡ classes → from more ws s ≡ by more ws s) → (words : List Word) (new : Left) (r : Result ℕ Refusal) → GoesToTerms by words new r → GoesToTermsAmong classes from words new r
-terms_as_among classes from by same words new (Ok next) h = λ more ws s i. same more ws s i ∙ h more ws s
-terms_as_among classes from by same words new (Err e) h = fails_anywhere (Among classes) from by same e h
+-- the constant is refused
+pub constant_fails : (X : Type 0) (a : Around) (w : Word) (old new : Left) (e : Refusal) (r : Result X Refusal) → r ≡ Err e → BeginsConstant a w old new r
+    → (rest : List Word) (next : List Wanted → State → Step) → FailsAmong (IsAround a) (λ more ws s. after (goes (rest ++ more)) w (constant_by w.keyword (next ws) (seen s old))) e
+constant_fails X a w old new refusal.OutOfMemory r is h rest next = tt
+constant_fails X a w old new (refusal.At f None) r is h rest next = absurd (subst (λ (r : Result X Refusal). BeginsConstant a w old new r) is h)
+constant_fails X a w old new (refusal.At f (Some v)) r is h rest next =
+    let said = subst (λ (r : Result X Refusal). BeginsConstant a w old new r) is h in
+    λ more ws s i. ap (after (goes (rest ++ more)) w) (said.1 (next ws) s i) ∙ ap (λ (x : Word). Err (f, Some x)) (sym said.0)
 
--- what reads a place reads it where more of a pattern is wanted
-pub place_to_terms : (by : Way) (words : List Word) (new : Left) (r : Result ℕ Refusal) → GoesOn by words (λ s. seen s new) r → GoesToTerms (λ more ws s. by more (Terms InPattern ∷ ws) s) words new r
-place_to_terms by words new (Ok next) h = λ more ws s. h more (Terms InPattern ∷ ws) s
-place_to_terms by words new (Err e) h = fails_under by (λ ws. Terms InPattern ∷ ws) e h
+-- what is read of a left side, in that state, as it is in this one
+abbrev as_in : State → State → State
+as_in s x =
+    record s {
+      class = x.class;
+      tests = x.tests;
+      choice = x.choice;
+      terms = x.terms;
+      constants = x.constants;
+      values = x.values;
+      elements = x.elements;
+      element = x.element;
+      variables = x.variables;
+      negated = x.negated;
+      around = x.around;
+      grouped = x.grouped;
+      members = x.members;
+      conditions = x.conditions;
+      counted = x.counted;
+      holes = x.holes;
+    }
 
--- ---- where the words are cut
+-- a constant is put there in every state
+pub constant_added : (f : ℕ) (p : Pred) (old new : Left) (v : Value) → view new ≡ with_constant (ToTest f p) (view old) v → (s : State) → seen s new ≡ with_constant (ToTest f p) (seen s old) v
+constant_added f p old new v e s = ap (as_in s) e
 
-pub peek_terms_as_among : (classes : List Class) (from by : CutWay) (words : List Word) (at : ℕ) → ((n : ℕ) → at ≤ n → (on : Onward) (ws : List Wanted) (s : State) → s.classes ≡ classes → from (take n words) on ws s ≡ by (take n words) on ws s) → (new : Left) (r : Result ℕ Refusal) → IsFrom at r → PeekGoesToTerms by words new r → PeekGoesToTermsAmong classes from words new r
-peek_terms_as_among classes from by words at same new (Ok next) le h = λ n lt on ws s i. same n (omega (arith, le, lt)) on ws s i ∙ h n lt on ws s
-peek_terms_as_among classes from by words at same new (Err e) le h = tt
+pub choice_added : (old new : Left) (v : Value) → view new ≡ with_choice_of (view old) v → (s : State) → seen s new ≡ with_choice_of (seen s old) v
+choice_added old new v e s = ap (as_in s) e
 
-pub peek_place_to_terms : (by : CutWay) (words : List Word) (new : Left) (r : Result ℕ Refusal) → CutGoesOn by words (λ s. seen s new) r → PeekGoesToTerms (λ cut on ws s. by cut on (Terms InPattern ∷ ws) s) words new r
-peek_place_to_terms by words new (Ok next) h = λ n lt on ws s. h n (omega (arith, lt)) on (Terms InPattern ∷ ws) s
-peek_place_to_terms by words new (Err e) h = tt
+pub tested_constant : (f : ℕ) (p : Pred) (w : Word) (v : Value) (ws : List Wanted) (s : State) → is_literal w.keyword ≡ false → constant_of w.kind w.name ≡ Some v → tested f p w ws s ≡ constant_by w.keyword (λ t. Next ws (with_constant (ToTest f p) t v)) s
+tested_constant f p w v ws s plain is = rw (plain, is) refl
+
+pub atom_first : (f : ℕ) (p : Pred) (words rest more : List Word) (w : Word) (v : Value) (ws : List Wanted) (s : State) → words ≡ w ∷ rest → atom_of w.kind w.name ≡ Some v → goes (words ++ more) (Atom (ToTest f p) ∷ ws) s ≡ after (goes (rest ++ more)) w (constant_by w.keyword (λ t. Next ws (with_constant (ToTest f p) t v)) s)
+unfolding goes step
+atom_first f p words rest more w v ws s e is = rw (e, is) refl
+
+pub atom_onward : (f : ℕ) (p : Pred) (on : Onward) (words rest : List Word) (w : Word) (v : Value) (ws : List Wanted) (s : State) → words ≡ w ∷ rest → atom_of w.kind w.name ≡ Some v → goes_onward on words (Atom (ToTest f p) ∷ ws) s ≡ after (goes_onward on rest) w (constant_by w.keyword (λ t. Next ws (with_constant (ToTest f p) t v)) s)
+unfolding goes_onward step
+atom_onward f p on words rest w v ws s e is = rw (e, is) refl
+
+pub choice_first : (f : ℕ) (words rest more : List Word) (w : Word) (v : Value) (ws : List Wanted) (s : State) → words ≡ w ∷ rest → closes_choice w.keyword ≡ false → atom_of w.kind w.name ≡ Some v → goes (words ++ more) (Choice f ∷ ws) s ≡ after (goes (rest ++ more)) w (constant_by w.keyword (λ t. Next (Choice f ∷ ws) (with_choice_of t v)) s)
+unfolding goes step
+choice_first f words rest more w v ws s e goes_on is = rw (e, goes_on, is) refl
+
+pub choice_onward : (f : ℕ) (on : Onward) (words rest : List Word) (w : Word) (v : Value) (ws : List Wanted) (s : State) → words ≡ w ∷ rest → closes_choice w.keyword ≡ false → atom_of w.kind w.name ≡ Some v → goes_onward on words (Choice f ∷ ws) s ≡ after (goes_onward on rest) w (constant_by w.keyword (λ t. Next (Choice f ∷ ws) (with_choice_of t v)) s)
+unfolding goes_onward step
+choice_onward f on words rest w v ws s e goes_on is = rw (e, goes_on, is) refl
+
+-- ---- the vector attribute
 
 -- one place more of the vector attribute
 pub several_onward : (u : Use) (f : ℕ) (on : Onward) (words rest : List Word) (w : Word) (ws : List Wanted) (s : State) → words ≡ w ∷ rest → (is_right w.kind || is_caret w.kind) ≡ false → goes_onward on words (Several u f ∷ ws) s ≡ after (goes_onward on rest) w (one_of_several u f w ws s)

@@ -4,21 +4,22 @@ ghost use Rattle.ops_grammar.specs.Grammar.{goes, is_right_brace, member, GroupB
 ghost use Rattle.ops_forms.specs.PlaceWalks.{IsFrom};
 ghost use Rattle.ops_lhs.specs.Taking.{ReadsAmong, ActsAmong, CutActsAmong, CutReadsAmong};
 
+use crate::around::Around;
 use crate::left::{Left, has_room};
 use ops_base::endings::Fault;
+use ops_forms::Refusal;
 use ops_forms::kinds::{is_left, is_left_brace, is_right_brace};
 use ops_forms::refusals::{conditions_passed, refused};
 use ops_forms::walking::first_of;
-use ops_forms::{Classes, Refusal};
 use ops_grammar::Word;
 use ops_tokens::TokenKind;
 
 impl Left {
     // { pattern pattern pattern* }
     #[tactic(auto, unfolding(ops_grammar::specs::Grammar::goes, ops_grammar::specs::Grammar::step, ops_grammar::specs::Grammar::ends, ops_forms::specs::PlaceWalks::goes_onward))]
-    pub fn group(&mut self, classes: &Classes, words: &[Word], at: usize) -> Result<usize, Refusal>
-        ensures reads { ReadsAmong classes.now GroupBrace self.old self.new words.now at result }
-        ensures cut { CutReadsAmong classes.now GroupBrace self.old self.new words.now at result }
+    pub fn group(&mut self, around: &Around, words: &[Word], at: usize) -> Result<usize, Refusal>
+        ensures reads { ReadsAmong around.now GroupBrace self.old self.new words.now at result }
+        ensures cut { CutReadsAmong around.now GroupBrace self.old self.new words.now at result }
         ensures within { IsFrom at result }
     {
         let (word, rest) = first_of(words, at)?;
@@ -26,19 +27,14 @@ impl Left {
             return refused(Fault::BadForm, word);
         }
         self.begin_group();
-        self.read_members(classes, words, rest)
+        self.read_members(around, words, rest)
     }
 
     // pattern pattern pattern* }
     #[tactic(auto, unfolding(ops_grammar::specs::Grammar::goes, ops_grammar::specs::Grammar::step, ops_grammar::specs::Grammar::ends, ops_forms::specs::PlaceWalks::goes_onward))]
-    fn read_members(
-        &mut self,
-        classes: &Classes,
-        words: &[Word],
-        at: usize,
-    ) -> Result<usize, Refusal>
-        ensures reads { ReadsAmong classes.now (Members 0) self.old self.new words.now at result }
-        ensures cut { CutReadsAmong classes.now (Members 0) self.old self.new words.now at result }
+    fn read_members(&mut self, around: &Around, words: &[Word], at: usize) -> Result<usize, Refusal>
+        ensures reads { ReadsAmong around.now (Members 0) self.old self.new words.now at result }
+        ensures cut { CutReadsAmong around.now (Members 0) self.old self.new words.now at result }
         ensures within { IsFrom at result }
     {
         let mut count: usize = 0;
@@ -49,7 +45,7 @@ impl Left {
                 self.end_group()?;
                 return Ok(after);
             }
-            rest = self.member_from(classes, word, words, after)?;
+            rest = self.member_from(around, word, words, after)?;
             count = count.checked_add(1).ok_or(Refusal::OutOfMemory)?;
         }
     }
@@ -57,13 +53,13 @@ impl Left {
     // pattern, whose first word was already taken, if there is room for one more member
     fn member_from(
         &mut self,
-        classes: &Classes,
+        around: &Around,
         word: Word,
         words: &[Word],
         at: usize,
     ) -> Result<usize, Refusal>
-        ensures acts { ActsAmong classes.now (λ ws s. member word ws s) word self.old self.new words.now at result }
-        ensures cut { CutActsAmong classes.now (λ ws s. member word ws s) word self.old self.new words.now at result }
+        ensures acts { ActsAmong around.now (λ ws s. member word ws s) word self.old self.new words.now at result }
+        ensures cut { CutActsAmong around.now (λ ws s. member word ws s) word self.old self.new words.now at result }
         ensures within { IsFrom at result }
     {
         if !is_left(word.kind) {
@@ -72,7 +68,7 @@ impl Left {
         if !has_room(&self.conditions, self.members.len()) {
             return conditions_passed(word);
         }
-        self.class_and_terms(classes, words, at)
+        self.class_and_terms(around, words, at)
     }
 }
 

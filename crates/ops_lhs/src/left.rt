@@ -1,10 +1,11 @@
 //! What was read of a left side so far, and how it grows.
 ghost use Rattle.std.specs.Prelude.{◌≡◌, ◌+◌, length, nat_lt};
 ghost use Rattle.ops_base.specs.Valid.{cells_of, elements_of, most_conditions};
-ghost use Rattle.ops_grammar.specs.Grammar.{nothing_read, left_begun, with_test, with_bound, with_choice, with_member, with_one, with_condition, group_begun, with_group, with_bound_element};
+ghost use Rattle.ops_grammar.specs.Grammar.{nothing_read, left_begun, with_test, with_constant, with_choice_of, with_bound, with_choice, with_member, ToTest, with_one, with_condition, group_begun, with_group, with_bound_element};
 ghost use Rattle.ops_forms.specs.WordWalks.{Becomes};
 ghost use Rattle.ops_lhs.specs.Taking.{view};
 
+use ops_base::actions::Hole;
 use ops_base::conditions::{Condition, Operand, Part, Test};
 use ops_base::list::Listed;
 use ops_base::values::{NIL, Pred, Sym, Value};
@@ -39,6 +40,10 @@ pub struct Left {
     /// The members of that group that were read so far.
     pub members: Vec<Condition>,
     pub conditions: Vec<Part>,
+    /// How many constants were read.
+    pub counted: usize,
+    /// Those of them that are holes.
+    pub holes: Vec<Hole>,
     pub alloc: Global,
 }
 
@@ -59,6 +64,8 @@ impl Left {
             grouped: false,
             members: Vec::new(alloc),
             conditions: Vec::new(alloc),
+            counted: 0,
+            holes: Vec::new(alloc),
             alloc,
         }
     }
@@ -78,6 +85,22 @@ impl Left {
             operand,
             binds,
         })?;
+        Ok(())
+    }
+
+    pub fn add_constant(&mut self, field: usize, pred: Pred, value: Value) -> Result<(), Refusal>
+        ensures { Becomes (view self.new) (with_constant (ToTest field pred) (view self.old) value) result }
+    {
+        self.counted = self.counted.checked_add(1).ok_or(Refusal::OutOfMemory)?;
+        self.add_test(field, pred, Operand::Constant(value), false)
+    }
+
+    // one more constant of a disjunction
+    pub fn add_choice(&mut self, value: Value) -> Result<(), Refusal>
+        ensures { Becomes (view self.new) (with_choice_of (view self.old) value) result }
+    {
+        self.counted = self.counted.checked_add(1).ok_or(Refusal::OutOfMemory)?;
+        self.choice.push(value)?;
         Ok(())
     }
 

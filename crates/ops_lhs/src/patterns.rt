@@ -2,63 +2,59 @@
 ghost use Rattle.std.specs.Prelude.{◌∷◌, ◌++◌, drop};
 ghost use Rattle.ops_grammar.specs.Grammar.{goes, InPattern, ClassName, Terms, Attribute, Pattern};
 ghost use Rattle.ops_forms.specs.PlaceWalks.{GoesAmong, IsFrom, CutGoesAmong, goes_onward};
-ghost use Rattle.ops_lhs.specs.Taking.{seen, GoesToTermsAmong, ReadsAmong, Among, PeekGoesToTermsAmong, CutReadsAmong};
+ghost use Rattle.ops_lhs.specs.Taking.{seen, GoesToTermsAmong, ReadsAmong, IsAround, PeekGoesToTermsAmong, CutReadsAmong};
 
+use crate::around::Around;
 use crate::left::Left;
 use ops_base::endings::Fault;
+use ops_forms::Refusal;
 use ops_forms::kinds::{is_caret, is_left, is_name, is_right};
 use ops_forms::refusals::refused;
 use ops_forms::walking::first_of;
-use ops_forms::{Classes, Refusal};
 use ops_grammar::Word;
 
 impl Left {
     // ( CLASS term* )
     #[tactic(auto, unfolding(ops_grammar::specs::Grammar::goes, ops_grammar::specs::Grammar::step, ops_grammar::specs::Grammar::ends, ops_forms::specs::PlaceWalks::goes_onward))]
-    pub fn pattern(
-        &mut self,
-        classes: &Classes,
-        words: &[Word],
-        at: usize,
-    ) -> Result<usize, Refusal>
-        ensures reads { ReadsAmong classes.now Pattern self.old self.new words.now at result }
-        ensures cut { CutReadsAmong classes.now Pattern self.old self.new words.now at result }
+    pub fn pattern(&mut self, around: &Around, words: &[Word], at: usize) -> Result<usize, Refusal>
+        ensures reads { ReadsAmong around.now Pattern self.old self.new words.now at result }
+        ensures cut { CutReadsAmong around.now Pattern self.old self.new words.now at result }
         ensures within { IsFrom at result }
     {
         let (word, rest) = first_of(words, at)?;
         if !is_left(word.kind) {
             return refused(Fault::BadForm, word);
         }
-        self.class_and_terms(classes, words, rest)
+        self.class_and_terms(around, words, rest)
     }
 
     // CLASS term* )
     pub fn class_and_terms(
         &mut self,
-        classes: &Classes,
+        around: &Around,
         words: &[Word],
         at: usize,
     ) -> Result<usize, Refusal>
-        ensures reads { GoesAmong (Among classes.now) (λ more ws s. goes (drop at words.now ++ more) (ClassName ∷ Terms InPattern ∷ ws) (seen s self.old)) words.now (λ s. seen s self.new) result }
-        ensures cut { CutGoesAmong (Among classes.now) (λ cut on ws s. goes_onward on (drop at cut) (ClassName ∷ Terms InPattern ∷ ws) (seen s self.old)) words.now (λ s. seen s self.new) result }
+        ensures reads { GoesAmong (IsAround around.now) (λ more ws s. goes (drop at words.now ++ more) (ClassName ∷ Terms InPattern ∷ ws) (seen s self.old)) words.now (λ s. seen s self.new) result }
+        ensures cut { CutGoesAmong (IsAround around.now) (λ cut on ws s. goes_onward on (drop at cut) (ClassName ∷ Terms InPattern ∷ ws) (seen s self.old)) words.now (λ s. seen s self.new) result }
         ensures within { IsFrom at result }
     {
-        let rest = self.class_name(classes, words, at)?;
-        self.terms(classes, words, rest)
+        let rest = self.class_name(around, words, at)?;
+        self.terms(around, words, rest)
     }
 
     // CLASS
     #[tactic(auto, unfolding(ops_grammar::specs::Grammar::goes, ops_grammar::specs::Grammar::step, ops_grammar::specs::Grammar::ends, ops_forms::specs::PlaceWalks::goes_onward))]
-    fn class_name(&mut self, classes: &Classes, words: &[Word], at: usize) -> Result<usize, Refusal>
-        ensures reads { ReadsAmong classes.now ClassName self.old self.new words.now at result }
-        ensures cut { CutReadsAmong classes.now ClassName self.old self.new words.now at result }
+    fn class_name(&mut self, around: &Around, words: &[Word], at: usize) -> Result<usize, Refusal>
+        ensures reads { ReadsAmong around.now ClassName self.old self.new words.now at result }
+        ensures cut { CutReadsAmong around.now ClassName self.old self.new words.now at result }
         ensures within { IsFrom at result }
     {
         let (word, rest) = first_of(words, at)?;
         if !is_name(word.kind) {
             return refused(Fault::BadForm, word);
         }
-        let Some(class) = classes.place_of(word.name) else {
+        let Some(class) = around.classes.place_of(word.name) else {
             return refused(Fault::UnknownClass, word);
         };
         self.class = class;
@@ -67,9 +63,9 @@ impl Left {
 
     // term* )
     #[tactic(auto, unfolding(ops_grammar::specs::Grammar::goes, ops_grammar::specs::Grammar::step, ops_grammar::specs::Grammar::ends, ops_forms::specs::PlaceWalks::goes_onward))]
-    fn terms(&mut self, classes: &Classes, words: &[Word], at: usize) -> Result<usize, Refusal>
-        ensures reads { ReadsAmong classes.now (Terms InPattern) self.old self.new words.now at result }
-        ensures cut { CutReadsAmong classes.now (Terms InPattern) self.old self.new words.now at result }
+    fn terms(&mut self, around: &Around, words: &[Word], at: usize) -> Result<usize, Refusal>
+        ensures reads { ReadsAmong around.now (Terms InPattern) self.old self.new words.now at result }
+        ensures cut { CutReadsAmong around.now (Terms InPattern) self.old self.new words.now at result }
         ensures within { IsFrom at result }
     {
         let mut rest = at;
@@ -82,15 +78,15 @@ impl Left {
             if !is_caret(word.kind) {
                 return refused(Fault::BadForm, word);
             }
-            rest = self.attribute(classes, words, after)?;
+            rest = self.attribute(around, words, after)?;
         }
     }
 
     // ATTR place*
     #[tactic(auto, unfolding(ops_grammar::specs::Grammar::goes, ops_grammar::specs::Grammar::step, ops_grammar::specs::Grammar::ends, ops_forms::specs::PlaceWalks::goes_onward))]
-    fn attribute(&mut self, classes: &Classes, words: &[Word], at: usize) -> Result<usize, Refusal>
-        ensures reads { GoesToTermsAmong classes.now (λ more ws s. goes (drop at words.now ++ more) (Attribute InPattern ∷ ws) (seen s self.old)) words.now self.new result }
-        ensures cut { PeekGoesToTermsAmong classes.now (λ cut on ws s. goes_onward on (drop at cut) (Attribute InPattern ∷ ws) (seen s self.old)) words.now self.new result }
+    fn attribute(&mut self, around: &Around, words: &[Word], at: usize) -> Result<usize, Refusal>
+        ensures reads { GoesToTermsAmong around.now (λ more ws s. goes (drop at words.now ++ more) (Attribute InPattern ∷ ws) (seen s self.old)) words.now self.new result }
+        ensures cut { PeekGoesToTermsAmong around.now (λ cut on ws s. goes_onward on (drop at cut) (Attribute InPattern ∷ ws) (seen s self.old)) words.now self.new result }
         ensures within { IsFrom at result }
     {
         let (word, rest) = first_of(words, at)?;
@@ -98,15 +94,15 @@ impl Left {
             return refused(Fault::BadForm, word);
         }
         // The definition is total: in fact the class exists, because it was found by its name.
-        let Some(class) = classes.get(self.class) else {
+        let Some(class) = around.classes.get(self.class) else {
             return refused(Fault::UnknownAttribute, word);
         };
         let Some(field) = class.field_of(word.name) else {
             return refused(Fault::UnknownAttribute, word);
         };
         if class.is_vector(field) {
-            return self.places(field, words, rest);
+            return self.places(around, field, words, rest);
         }
-        self.place(field, words, rest)
+        self.place(around, field, words, rest)
     }
 }

@@ -1,39 +1,58 @@
 //! Reads left sides from their words and from their tokens.
 ghost use Rattle.std.specs.Prelude.{◌≡◌, ◌≤◌, length, All, IfOk, IfErr};
 ghost use Rattle.ops_tokens.specs.Tokens.{LiesIn};
-ghost use Rattle.ops_lhs.specs.LeftSides.{ReadsLeft, RefusesLeft, AreBehindArrow, IsLeftSide, IsRefused};
-ghost use Rattle.ops_forms.specs.PlaceWalks.{fault_of};
+ghost use Rattle.ops_lhs.specs.LeftSides.{ReadsLeft, ReadsLeftFrom, CutReadsLeftFrom, IsLeftFrom, RefusesLeft, IsArrow, AreBehindArrow, IsLeftSide, IsRefused};
+ghost use Rattle.ops_forms.specs.PlaceWalks.{IsBehind, fault_of};
 
+use crate::around::Around;
 use crate::left::Left;
 use crate::sides::LeftSide;
 use crate::sight::show;
 use ops_base::conditions::Part;
 use ops_forms::walking::fault_of;
-use ops_forms::{Classes, ReadFault, Refusal, Scope, words_of};
+use ops_forms::{Declared, ReadFault, Refusal, Scope, words_of};
 use ops_grammar::Word;
 use ops_tokens::Token;
 use std::alloc::Global;
 
-/// Reads the left side at the beginning of the words, given the declared classes, and returns the words after its
-/// arrow. Takes time in proportion to the number of words that it reads times the logarithm of the number of names.
+/// Reads the left side at the beginning of the words, given what is around it, and returns the words after its arrow.
+/// Takes time in proportion to the number of words that it reads times the logarithm of the number of names.
 pub fn left_side<'a>(
     alloc: Global,
-    classes: &Classes,
+    around: &Around,
     words: &'a [Word],
 ) -> Result<(LeftSide, &'a [Word]), Refusal>
-    ensures ok { IfOk result (λ r. ReadsLeft classes.now words.now r.1.now r.0.conditions.items r.0.values r.0.elements r.0.variables) }
+    ensures ok { IfOk result (λ r. ReadsLeft around.now.classes.now around.now.values.now words.now r.1.now r.0.conditions.items r.0.values r.0.elements r.0.variables r.0.counted r.0.holes.items) }
     ensures behind { IfOk result (λ r. AreBehindArrow words.now r.1.now) }
-    ensures err { IfErr result (λ e. RefusesLeft classes.now words.now e) }
+    ensures err { IfErr result (λ e. RefusesLeft around.now.classes.now around.now.values.now words.now e) }
+{
+    let (side, next) = left_from(alloc, around, words, 0)?;
+    Ok((side, &words[next..]))
+}
+
+/// The same, but the left side begins at a place in the words. Returns the place after its arrow.
+pub fn left_from(
+    alloc: Global,
+    around: &Around,
+    words: &[Word],
+    at: usize,
+) -> Result<(LeftSide, usize), Refusal>
+    ensures reads { ReadsLeftFrom around.now words.now at result }
+    ensures cut { CutReadsLeftFrom around.now words.now at result }
+    ensures behind { IfOk result (λ r. IsBehind IsArrow words.now r.1) }
+    ensures within { IsLeftFrom at result }
 {
     let mut left = Left::new(alloc);
-    let next = left.read_conditions(classes, words, 0)?;
+    let next = left.read_conditions(around, words, at)?;
     let side = LeftSide {
         conditions: left.conditions,
         values: left.values,
         elements: left.elements,
         variables: left.variables,
+        counted: left.counted,
+        holes: left.holes,
     };
-    Ok((side, &words[next..]))
+    Ok((side, next))
 }
 
 /// Reads the left side of a production, which begins at the token `from`, after the production's name. Returns its
@@ -58,7 +77,12 @@ pub fn read_lhs(
         scope.text.as_slice(),
         &tokens[from..],
     )?;
-    match left_side(alloc, &scope.classes, words.as_slice()) {
+    let none = Declared::new(alloc);
+    let around = Around {
+        classes: &scope.classes,
+        values: &none,
+    };
+    match left_side(alloc, &around, words.as_slice()) {
         Ok((side, rest)) => {
             let place = tokens.len() - rest.len() - 1;
             let conditions = show(alloc, scope, side)?;

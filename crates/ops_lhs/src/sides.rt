@@ -1,5 +1,6 @@
 //! The result of reading a left side.
 
+use ops_base::actions::Hole;
 use ops_base::conditions::Part;
 use ops_forms::{Declared, Named};
 
@@ -13,4 +14,8 @@ pub struct LeftSide {
     pub elements: Declared<Named>,
     /// How many variables were given a number, including those of negated conditions and groups.
     pub variables: usize,
+    /// How many constants they have.
+    pub counted: usize,
+    /// Those of them that are holes.
+    pub holes: Vec<Hole>,
 }

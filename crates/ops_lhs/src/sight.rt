@@ -13,7 +13,7 @@ use std::alloc::Global;
 // Puts into the scope what the left side leaves in sight, and nothing of an earlier one, and returns the conditions.
 pub fn show(alloc: Global, scope: &mut Scope, side: LeftSide) -> Result<Vec<Part>, OutOfMemory>
     ensures conditions { IfOk result (λ conditions. conditions.items ≡ side.conditions.items) }
-    ensures ok { OnOk result (scope.new ≡ record scope.old { values = side.values; elements = side.elements; variables = side.variables; cells = cells_of side.conditions.items; conditions = cells_from 0 side.conditions.items }) }
+    ensures ok { OnOk result (scope.new ≡ record scope.old { values = side.values; elements = side.elements; variables = side.variables; counted = side.counted; holes = side.holes; cells = cells_of side.conditions.items; conditions = cells_from 0 side.conditions.items }) }
     ensures err { OnErr result (scope.new ≡ scope.old) }
 {
     let cells = classes_of_cells(alloc, &side.conditions)?;
@@ -21,6 +21,8 @@ pub fn show(alloc: Global, scope: &mut Scope, side: LeftSide) -> Result<Vec<Part
     scope.values = side.values;
     scope.elements = side.elements;
     scope.variables = side.variables;
+    scope.counted = side.counted;
+    scope.holes = side.holes;
     scope.cells = cells;
     scope.conditions = conditions;
     Ok(side.conditions)

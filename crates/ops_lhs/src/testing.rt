@@ -1,8 +1,9 @@
 //! Tests of a condition.
 ghost use Rattle.ops_grammar.specs.Grammar.{goes, number_of, place, test, tested, variable_tested, Place, Tests, Tested, Choice, Atom, ToTest};
 ghost use Rattle.ops_forms.specs.PlaceWalks.{IsFrom};
-ghost use Rattle.ops_lhs.specs.Taking.{Reads, Acts, CutActs, CutReads};
+ghost use Rattle.ops_lhs.specs.Taking.{Acts, CutActs, ReadsAmong, ActsAmong, CutActsAmong, CutReadsAmong};
 
+use crate::around::Around;
 use crate::left::Left;
 use ops_base::conditions::Operand;
 use ops_base::endings::Fault;
@@ -19,38 +20,51 @@ use ops_grammar::Word;
 impl Left {
     // test | { test* }
     #[tactic(auto, unfolding(ops_grammar::specs::Grammar::goes, ops_grammar::specs::Grammar::step, ops_grammar::specs::Grammar::ends, ops_forms::specs::PlaceWalks::goes_onward))]
-    pub fn place(&mut self, field: usize, words: &[Word], at: usize) -> Result<usize, Refusal>
-        ensures reads { Reads (Place field) self.old self.new words.now at result }
-        ensures cut { CutReads (Place field) self.old self.new words.now at result }
+    pub fn place(
+        &mut self,
+        around: &Around,
+        field: usize,
+        words: &[Word],
+        at: usize,
+    ) -> Result<usize, Refusal>
+        ensures reads { ReadsAmong around.now (Place field) self.old self.new words.now at result }
+        ensures cut { CutReadsAmong around.now (Place field) self.old self.new words.now at result }
         ensures within { IsFrom at result }
     {
         let (word, rest) = first_of(words, at)?;
-        self.place_from(field, word, words, rest)
+        self.place_from(around, field, word, words, rest)
     }
 
     // test | { test* }, whose first word was already taken
     pub fn place_from(
         &mut self,
+        around: &Around,
         field: usize,
         word: Word,
         words: &[Word],
         at: usize,
     ) -> Result<usize, Refusal>
-        ensures acts { Acts (λ ws s. place field word ws s) word self.old self.new words.now at result }
-        ensures cut { CutActs (λ ws s. place field word ws s) word self.old self.new words.now at result }
+        ensures acts { ActsAmong around.now (λ ws s. place field word ws s) word self.old self.new words.now at result }
+        ensures cut { CutActsAmong around.now (λ ws s. place field word ws s) word self.old self.new words.now at result }
         ensures within { IsFrom at result }
     {
         if is_left_brace(word.kind) {
-            return self.conjunction(field, words, at);
+            return self.conjunction(around, field, words, at);
         }
-        self.test_from(field, word, words, at)
+        self.test_from(around, field, word, words, at)
     }
 
     // test* }
     #[tactic(auto, unfolding(ops_grammar::specs::Grammar::goes, ops_grammar::specs::Grammar::step, ops_grammar::specs::Grammar::ends, ops_forms::specs::PlaceWalks::goes_onward))]
-    fn conjunction(&mut self, field: usize, words: &[Word], at: usize) -> Result<usize, Refusal>
-        ensures reads { Reads (Tests field) self.old self.new words.now at result }
-        ensures cut { CutReads (Tests field) self.old self.new words.now at result }
+    fn conjunction(
+        &mut self,
+        around: &Around,
+        field: usize,
+        words: &[Word],
+        at: usize,
+    ) -> Result<usize, Refusal>
+        ensures reads { ReadsAmong around.now (Tests field) self.old self.new words.now at result }
+        ensures cut { CutReadsAmong around.now (Tests field) self.old self.new words.now at result }
         ensures within { IsFrom at result }
     {
         let mut rest = at;
@@ -59,29 +73,30 @@ impl Left {
             if is_right_brace(word.kind) {
                 return Ok(after);
             }
-            rest = self.test_from(field, word, words, after)?;
+            rest = self.test_from(around, field, word, words, after)?;
         }
     }
 
     // constant | VARIABLE | PRED constant | PRED VARIABLE | << atom* >>, whose first word was already taken
     fn test_from(
         &mut self,
+        around: &Around,
         field: usize,
         word: Word,
         words: &[Word],
         at: usize,
     ) -> Result<usize, Refusal>
-        ensures acts { Acts (λ ws s. test field word ws s) word self.old self.new words.now at result }
-        ensures cut { CutActs (λ ws s. test field word ws s) word self.old self.new words.now at result }
+        ensures acts { ActsAmong around.now (λ ws s. test field word ws s) word self.old self.new words.now at result }
+        ensures cut { CutActsAmong around.now (λ ws s. test field word ws s) word self.old self.new words.now at result }
         ensures within { IsFrom at result }
     {
         if opens_choice(word.keyword) {
             self.choice.clear();
-            return self.disjunction(field, words, at);
+            return self.disjunction(around, field, words, at);
         }
         match pred_of(word.keyword) {
-            Some(pred) => self.tested(field, pred, words, at),
-            None => self.operand_from(field, Pred::Eq, word, words, at),
+            Some(pred) => self.tested(around, field, pred, words, at),
+            None => self.operand_from(around, field, Pred::Eq, word, words, at),
         }
     }
 
@@ -89,37 +104,40 @@ impl Left {
     #[tactic(auto, unfolding(ops_grammar::specs::Grammar::goes, ops_grammar::specs::Grammar::step, ops_grammar::specs::Grammar::ends, ops_forms::specs::PlaceWalks::goes_onward))]
     fn tested(
         &mut self,
+        around: &Around,
         field: usize,
         pred: Pred,
         words: &[Word],
         at: usize,
     ) -> Result<usize, Refusal>
-        ensures reads { Reads (Tested field pred) self.old self.new words.now at result }
-        ensures cut { CutReads (Tested field pred) self.old self.new words.now at result }
+        ensures reads { ReadsAmong around.now (Tested field pred) self.old self.new words.now at result }
+        ensures cut { CutReadsAmong around.now (Tested field pred) self.old self.new words.now at result }
         ensures within { IsFrom at result }
     {
         let (word, rest) = first_of(words, at)?;
-        self.operand_from(field, pred, word, words, rest)
+        self.operand_from(around, field, pred, word, words, rest)
     }
 
     // constant | VARIABLE, whose first word was already taken
     fn operand_from(
         &mut self,
+        around: &Around,
         field: usize,
         pred: Pred,
         word: Word,
         words: &[Word],
         at: usize,
     ) -> Result<usize, Refusal>
-        ensures acts { Acts (λ ws s. tested field pred word ws s) word self.old self.new words.now at result }
-        ensures cut { CutActs (λ ws s. tested field pred word ws s) word self.old self.new words.now at result }
+        ensures acts { ActsAmong around.now (λ ws s. tested field pred word ws s) word self.old self.new words.now at result }
+        ensures cut { CutActsAmong around.now (λ ws s. tested field pred word ws s) word self.old self.new words.now at result }
         ensures within { IsFrom at result }
     {
         if is_literal(word.keyword) {
-            return self.atom(field, pred, words, at);
+            return self.atom(around, field, pred, words, at);
         }
         if let Some(constant) = constant_of(word.kind, word.name) {
-            self.add_test(field, pred, Operand::Constant(constant), false)?;
+            self.begin_constant(around, word)?;
+            self.add_constant(field, pred, constant)?;
             return Ok(at);
         }
         if !is_variable(word.kind) {
@@ -132,20 +150,22 @@ impl Left {
     #[tactic(auto, unfolding(ops_grammar::specs::Grammar::goes, ops_grammar::specs::Grammar::step, ops_grammar::specs::Grammar::ends, ops_forms::specs::PlaceWalks::goes_onward))]
     fn atom(
         &mut self,
+        around: &Around,
         field: usize,
         pred: Pred,
         words: &[Word],
         at: usize,
     ) -> Result<usize, Refusal>
-        ensures reads { Reads (Atom (ToTest field pred)) self.old self.new words.now at result }
-        ensures cut { CutReads (Atom (ToTest field pred)) self.old self.new words.now at result }
+        ensures reads { ReadsAmong around.now (Atom (ToTest field pred)) self.old self.new words.now at result }
+        ensures cut { CutReadsAmong around.now (Atom (ToTest field pred)) self.old self.new words.now at result }
         ensures within { IsFrom at result }
     {
         let (word, rest) = first_of(words, at)?;
         let Some(value) = atom_of(word.kind, word.name) else {
             return refused(Fault::BadForm, word);
         };
-        self.add_test(field, pred, Operand::Constant(value), false)?;
+        self.begin_constant(around, word)?;
+        self.add_constant(field, pred, value)?;
         Ok(rest)
     }
 
@@ -177,9 +197,15 @@ impl Left {
 
     // atom* >>
     #[tactic(auto, unfolding(ops_grammar::specs::Grammar::goes, ops_grammar::specs::Grammar::step, ops_grammar::specs::Grammar::ends, ops_forms::specs::PlaceWalks::goes_onward))]
-    fn disjunction(&mut self, field: usize, words: &[Word], at: usize) -> Result<usize, Refusal>
-        ensures reads { Reads (Choice field) self.old self.new words.now at result }
-        ensures cut { CutReads (Choice field) self.old self.new words.now at result }
+    fn disjunction(
+        &mut self,
+        around: &Around,
+        field: usize,
+        words: &[Word],
+        at: usize,
+    ) -> Result<usize, Refusal>
+        ensures reads { ReadsAmong around.now (Choice field) self.old self.new words.now at result }
+        ensures cut { CutReadsAmong around.now (Choice field) self.old self.new words.now at result }
         ensures within { IsFrom at result }
     {
         let mut rest = at;
@@ -192,7 +218,8 @@ impl Left {
             let Some(value) = atom_of(word.kind, word.name) else {
                 return refused(Fault::BadForm, word);
             };
-            self.choice.push(value)?;
+            self.begin_constant(around, word)?;
+            self.add_choice(value)?;
             rest = after;
         }
     }

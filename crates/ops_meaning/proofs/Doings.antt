@@ -1,5 +1,6 @@
 -- What the parts of a right side keep, and why they end.
-use Rattle.std.proofs.Common.{◌≡◌, ℕ, suc, ◌+◌, List, [], ◌∷◌, fold, length, Bool, true, false, cond, Option, Some, None, Result, Ok, Err, IfOk, MatchResult, refl, ap, sym, ◌∙◌, subst, arith}
+use Rattle.std.proofs.Common.{◌≡◌, ℕ, suc, ◌+◌, List, [], ◌∷◌, fold, length, Bool, true, false, cond, Option, Some, None, slice_get, unwrap_or, Result, Ok, Err, IfOk, MatchResult, refl, ap, sym, ◌∙◌, subst, arith}
+use Rattle.std.specs.Prelude.{◌++◌, option_map}
 use Rattle.ops_base.specs.declared.actions.Action.{Action}
 use Rattle.ops_base.specs.declared.actions.Action.TheVariants as action
 use Rattle.ops_base.specs.declared.actions.Item.{Item}
@@ -22,10 +23,14 @@ use Rattle.ops_io.specs.Output.{column_after}
 use Rattle.ops_tokens.specs.Accepting.{Accepted, accepted}
 use Rattle.ops_tokens.specs.declared.accept.AcceptFault.{AcceptFault}
 use Rattle.ops_tokens.specs.declared.accept.AcceptFault.TheVariants as accept_fault
-use Rattle.ops_meaning.specs.Acting.{Setting, ActState, ActionError, Fault, Unread, Misdeed, Bad, NoInput, in_action, Given, Acted, Valued, Filled, evaluated, value_in, computed_as, accepted_as, values_placed, placed, terms_placed, puts_made, puts_over, made_fields, modified_fields, emptied, has_tag, cell_of, changed, next_element, added, removed, modified, bound, first_of, printed, lead_after, item_done, items_done, changes_told, action_done, actions_done, actions_of, begun, left_by, acted}
+use Rattle.ops_base.specs.declared.actions.Hole.{Hole}
+use Rattle.ops_base.specs.declared.filling.Filling.{Filling}
+use Rattle.ops_base.specs.declared.rules.Rule.{Rule}
+use Rattle.ops_base.specs.Filling.{rule_filled}
+use Rattle.ops_meaning.specs.Acting.{Setting, ActState, ActionError, Fault, Unread, Misdeed, Bad, NoInput, in_action, Given, Acted, Valued, Filled, evaluated, value_in, computed_as, accepted_as, values_placed, placed, terms_placed, puts_made, puts_over, made_fields, modified_fields, emptied, has_tag, cell_of, changed, next_element, added, removed, modified, bound, first_of, fillings, filled_from, rule_built, printed, lead_after, item_done, items_done, changes_told, action_done, actions_done, actions_of, begun, left_by, acted}
 use Rattle.ops_meaning.specs.Computing.{Computed, computed}
 use Rattle.ops_meaning.specs.Effects.{Effect, going_on, followed_by, outcome_as}
-use Rattle.ops_meaning.specs.Kept.{WellKept, KeepsNames, IsLawfulOver}
+use Rattle.ops_meaning.specs.Kept.{WellKept, KeepsNames, IsLawfulOver, AreFilledFrom}
 use Rattle.ops_meaning.specs.Layout.{Lead, Apart}
 use Rattle.ops_base.proofs.Changes.{done_push, last_after_push}
 use Rattle.ops_meaning.proofs.Lawful.{has_tag-Contains, lawful_kept, lawful_risen, lawful_push}
@@ -61,23 +66,39 @@ EndsActions fails NoInput = fails ≡ true
 -- ---- a right side
 
 -- From this working memory and this last tag the changes so far are lawful and lead to what is there now; the symbols
--- keep their spellings, and the input fails as it did.
-pub record KeptDoing (old : List Element) (given : ℕ) (names : Spellings) (fails : Bool) (d : ActState) : Type 0 where
+-- keep their spellings, the input fails as it did, and what was built are templates with other constants.
+pub record KeptDoing (templates : List Rule) (old : List Element) (given : ℕ) (names : Spellings) (fails : Bool) (d : ActState) : Type 0 where
   pub lawful : Lawful old given d.changes
   pub memory : done old d.changes ≡ d.wm
   pub last_tag : last_after given d.changes ≡ d.last
   pub keeps : KeepsNames names d.names
   pub coming : d.coming.fails ≡ fails
+  pub built : AreFilledFrom templates d.built
 
--- the changes of a right side are lawful, the symbols keep their spellings, and the input fails as it did
-pub record KeptActed (old : List Element) (given : ℕ) (names : Spellings) (fails : Bool) (a : Acted) : Type 0 where
+-- the changes of a right side are lawful, the symbols keep their spellings, the input fails as it did, and what was built
+-- are templates with other constants
+pub record KeptActed (templates : List Rule) (old : List Element) (given : ℕ) (names : Spellings) (fails : Bool) (a : Acted) : Type 0 where
   pub lawful : WellKept old given → IsLawfulOver old given a
   pub keeps : KeepsNames names a.names
   pub coming : a.coming.fails ≡ fails
+  pub built : AreFilledFrom templates a.built
 
-module _ (old : List Element) (given : ℕ) (names : Spellings) (fails : Bool) where
+-- one more behind them
+pub filled_push : (templates rules more : List Rule) → AreFilledFrom templates rules → AreFilledFrom templates more → AreFilledFrom templates (rules ++ more)
+filled_push templates [] more p q = q
+filled_push templates (r ∷ rules) more p q = (p.0, filled_push templates rules more p.1 q)
+
+-- what the template with a number gives is one of them with other constants
+from_template : (templates : List Rule) (n : ℕ) (fs : List Filling) → AreFilledFrom templates (filled_from templates n fs)
+from_template templates n fs = by (slice_get templates n) refl
+  where
+    by : (o : Option Rule) → slice_get templates n ≡ o → AreFilledFrom templates (unwrap_or (option_map (λ r. rule_filled fs r ∷ []) o) [])
+    by None is = tt
+    by (Some r) is = (record { number = n; template = r; values = fs; there = is; filled = refl }, tt)
+
+module _ (templates : List Rule) (old : List Element) (given : ℕ) (names : Spellings) (fails : Bool) where
   abbrev Kept : ActState → Type 0
-  Kept d = KeptDoing old given names fails d
+  Kept d = KeptDoing templates old given names fails d
 
   abbrev Ends : ActionError → Type 0
   Ends m = EndsAction fails m
@@ -90,12 +111,13 @@ module _ (old : List Element) (given : ℕ) (names : Spellings) (fails : Bool) w
     last_tag = p.last_tag;
     keeps = names_then names d.names held p.keeps keeps;
     coming = same ∙ p.coming;
+    built = p.built;
   }
 
   -- the same, with other bindings and cells
   kept_beside : (d : ActState) (bindings : List Binding) (cells : List Element) (halted : Bool) → Kept d → Kept (record d { bindings = bindings; cells = cells; halted = halted })
   kept_beside d bindings cells halted p =
-      record { lawful = p.lawful; memory = p.memory; last_tag = p.last_tag; keeps = p.keeps; coming = p.coming }
+      record { lawful = p.lawful; memory = p.memory; last_tag = p.last_tag; keeps = p.keeps; coming = p.coming; built = p.built }
 
   -- ---- values
 
@@ -162,6 +184,7 @@ module _ (old : List Element) (given : ℕ) (names : Spellings) (fails : Bool) w
         last_tag = last_after_push given d.changes c ∙ ap (λ n. last_after n (c ∷ [])) p.last_tag ∙ is;
         keeps = p.keeps;
         coming = p.coming;
+        built = p.built;
       }
 
   one_added : (d : ActState) (class : ℕ) (fields : List Value) → Kept d → Kept (added d class fields)
@@ -203,37 +226,48 @@ module _ (old : List Element) (given : ℕ) (names : Spellings) (fails : Bool) w
       goes_on Kept Kept Ends e.bytes e.outcome (λ d. items_done classes (lead_after x) (column_after column e.bytes) items d) (item_kept classes lead column x d p)
       (λ d q. items_kept classes (lead_after x) (column_after column e.bytes) items d q)
 
-  action_kept : (s : Setting) (column : ℕ) (a : Action) (d : ActState) → Kept d → MatchResult (action_done s column a d).outcome Kept Ends
-  action_kept s column (action.Make class puts) d p =
+  built_kept : (n : ℕ) (holes : List Hole) (d : ActState) → Kept d → Kept (rule_built templates n holes d)
+  built_kept n holes d p = record {
+    lawful = p.lawful;
+    memory = p.memory;
+    last_tag = p.last_tag;
+    keeps = p.keeps;
+    coming = p.coming;
+    built = filled_push templates d.built _ p.built (from_template templates n (fillings d.bindings holes));
+  }
+
+  action_kept : (s : Setting) (column : ℕ) (a : Action) (d : ActState) → s.templates ≡ templates → Kept d → MatchResult (action_done s column a d).outcome Kept Ends
+  action_kept s column (action.Make class puts) d same p =
       goes_on Kept Kept Ends [] (followed_by (made_fields s.classes (class_of s.classes class) puts d) (λ f. Ok (added f.doing class f.fields))) (changes_told s d (column_after column []))
       (goes_behind KeptFilled Kept Ends (made_fields s.classes (class_of s.classes class) puts d) (λ f. Ok (added f.doing class f.fields))
       (made_kept s.classes (class_of s.classes class) puts _ p) (λ f q. one_added f.doing class f.fields q))
       (λ d q. q)
-  action_kept s column (action.Modify cell puts) d p =
+  action_kept s column (action.Modify cell puts) d same p =
       goes_on Kept Kept Ends [] (followed_by (modified_fields s.classes puts cell d) (λ f. Ok (modified f.doing cell f.fields))) (changes_told s d (column_after column []))
       (goes_behind KeptFilled Kept Ends (modified_fields s.classes puts cell d) (λ f. Ok (modified f.doing cell f.fields))
       (over_kept s.classes puts _ p) (λ f q. one_modified f.doing cell f.fields q))
       (λ d q. q)
-  action_kept s column (action.Remove cells) d p = all_removed cells d p
-  action_kept s column (action.Write items) d p = items_kept s.classes Apart column items d p
-  action_kept s column (action.Bind variable t) d p =
+  action_kept s column (action.Remove cells) d same p = all_removed cells d p
+  action_kept s column (action.Write items) d same p = items_kept s.classes Apart column items d p
+  action_kept s column (action.Bind variable t) d same p =
       goes_behind KeptValued Kept Ends (evaluated s.classes t d) (λ v. Ok (bound v.doing variable (first_of v.values)))
       (evaluated_kept s.classes t d p) (λ v q. kept_beside v.doing _ v.doing.cells v.doing.halted q)
-  action_kept s column (action.Cbind cell) d p = kept_beside d d.bindings _ d.halted p
-  action_kept s column action.Halt d p = kept_beside d d.bindings d.cells true p
-  action_kept s column (action.Build template holes) d p = p
+  action_kept s column (action.Cbind cell) d same p = kept_beside d d.bindings _ d.halted p
+  action_kept s column action.Halt d same p = kept_beside d d.bindings d.cells true p
+  action_kept s column (action.Build template holes) d same p =
+      let P : List Rule → Type 0 = λ ts. Kept (rule_built ts template holes d) in subst P (sym same) (built_kept template holes d p)
 
   ends_in : (n : ℕ) (m : ActionError) → Ends m → EndsActions fails (in_action n m)
   ends_in n (Fault kind) p = tt
   ends_in n Unread p = p
 
-  actions_kept : (s : Setting) (column n : ℕ) (actions : List Action) (d : ActState) → Kept d → MatchResult (actions_done s column n actions d).outcome Kept (EndsActions fails)
-  actions_kept s column n [] d p = p
-  actions_kept s column n (a ∷ rest) d p =
+  actions_kept : (s : Setting) (column n : ℕ) (actions : List Action) (d : ActState) → s.templates ≡ templates → Kept d → MatchResult (actions_done s column n actions d).outcome Kept (EndsActions fails)
+  actions_kept s column n [] d same p = p
+  actions_kept s column n (a ∷ rest) d same p =
       let e = action_done s column a d in
       goes_on Kept Kept (EndsActions fails) e.bytes (outcome_as (λ d. d) (in_action n) e.outcome) (λ d. actions_done s (column_after column e.bytes) (suc n) rest d)
-      (goes_as Kept Kept Ends (EndsActions fails) (λ d. d) (in_action n) e.outcome (action_kept s column a d p) (λ d q. q) (ends_in n))
-      (λ d q. actions_kept s (column_after column e.bytes) (suc n) rest d q)
+      (goes_as Kept Kept Ends (EndsActions fails) (λ d. d) (in_action n) e.outcome (action_kept s column a d same p) (λ d q. q) (ends_in n))
+      (λ d q. actions_kept s (column_after column e.bytes) (suc n) rest d same q)
 
   left_lawful : (d : ActState) → WellKept old given → Kept d → IsLawfulOver old given (left_by d)
   left_lawful d well p =
@@ -246,19 +280,19 @@ module _ (old : List Element) (given : ℕ) (names : Spellings) (fails : Bool) w
         risen = omega (arith, p.last_tag);
       }
 
-  left_kept : (d : ActState) → Kept d → KeptActed old given names fails (left_by d)
-  left_kept d p = record { lawful = λ well. left_lawful d well p; keeps = p.keeps; coming = p.coming }
+  left_kept : (d : ActState) → Kept d → KeptActed templates old given names fails (left_by d)
+  left_kept d p = record { lawful = λ well. left_lawful d well p; keeps = p.keeps; coming = p.coming; built = p.built }
 
 -- what a right side keeps, and why it ends
-pub acted_kept : (s : Setting) (column : ℕ) (i : Inst) (g : Given) → MatchResult (acted s column i g).outcome (KeptActed g.wm g.last g.names g.coming.fails) (EndsActions g.coming.fails)
+pub acted_kept : (s : Setting) (column : ℕ) (i : Inst) (g : Given) → MatchResult (acted s column i g).outcome (KeptActed s.templates g.wm g.last g.names g.coming.fails) (EndsActions g.coming.fails)
 acted_kept s column i g =
     let start = begun s i g in
     let e = actions_done s column 1 (actions_of s.rules i.rule) start in
-    goes_as (KeptDoing g.wm g.last g.names g.coming.fails) (KeptActed g.wm g.last g.names g.coming.fails) (EndsActions g.coming.fails) (EndsActions g.coming.fails) left_by (λ f. f) e.outcome
-    (actions_kept g.wm g.last g.names g.coming.fails s column 1 (actions_of s.rules i.rule) start (record { lawful = tt; memory = refl; last_tag = refl; keeps = names_stay g.names; coming = refl }))
-    (left_kept g.wm g.last g.names g.coming.fails) (λ e p. p)
+    goes_as (KeptDoing s.templates g.wm g.last g.names g.coming.fails) (KeptActed s.templates g.wm g.last g.names g.coming.fails) (EndsActions g.coming.fails) (EndsActions g.coming.fails) left_by (λ f. f) e.outcome
+    (actions_kept s.templates g.wm g.last g.names g.coming.fails s column 1 (actions_of s.rules i.rule) start refl (record { lawful = tt; memory = refl; last_tag = refl; keeps = names_stay g.names; coming = refl; built = tt }))
+    (left_kept s.templates g.wm g.last g.names g.coming.fails) (λ e p. p)
 
 -- the symbols keep their spellings in a right side
 pub acts_keep_names : (s : Setting) (column : ℕ) (i : Inst) (g : Given) → IfOk (acted s column i g).outcome (λ a. KeepsNames g.names a.names)
 acts_keep_names s column i g =
-    ok_goes (KeptActed g.wm g.last g.names g.coming.fails) (λ a. KeepsNames g.names a.names) (EndsActions g.coming.fails) (acted s column i g).outcome (acted_kept s column i g) (λ a p. p.keeps)
+    ok_goes (KeptActed s.templates g.wm g.last g.names g.coming.fails) (λ a. KeepsNames g.names a.names) (EndsActions g.coming.fails) (acted s column i g).outcome (acted_kept s column i g) (λ a p. p.keeps)

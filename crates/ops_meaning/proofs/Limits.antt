@@ -1,6 +1,7 @@
 -- A session makes at most as many firings as its limit says, and a run with a number at most as many as that says.
-use Rattle.std.proofs.Common.{◌≡◌, ℕ, zero, suc, ◌+◌, ◌-◌, ◌≤◌, List, [], ◌∷◌, Bool, true, false, cond, Option, Some, None, MatchResult, refl, arith}
+use Rattle.std.proofs.Common.{◌≡◌, ℕ, zero, suc, ◌+◌, ◌-◌, ◌≤◌, List, [], ◌∷◌, Bool, true, false, cond, Option, Some, None, MatchResult, refl, ◌∙◌, arith}
 use Rattle.std.specs.Prelude.{option_map, unwrap_or, fold}
+use Rattle.std.specs.Option.{option_or}
 use Rattle.std.proofs.lemmas.Bool.{cond_both}
 use Rattle.ops_base.specs.declared.commands.Command.{Command}
 use Rattle.ops_base.specs.declared.commands.Command.TheVariants as command
@@ -14,8 +15,8 @@ use Rattle.ops_io.specs.Output.{column_after}
 use Rattle.ops_meaning.specs.Acting.{Setting, Misdeed, Bad, NoInput, acted}
 use Rattle.ops_meaning.specs.Effects.{Effect, writes, and_then}
 use Rattle.ops_meaning.specs.Kept.{TellsLimit, KeepsLimit, IsLimited, IsCounted}
-use Rattle.ops_meaning.specs.Layout.{firing_bytes, halted_line, broken_line, counted_line, rule_name}
-use Rattle.ops_meaning.specs.Running.{Course, Turned, Session, LastFiring, begun, turn, line_of_pause, has_break, last_of, one_less, given_by, ended_in, with_course, turned_of, firing, run_on, next_to_fire, command_done, commands_done, is_exit, strategy_given, level_given, breaks_given, in_force, rule_named, taken_out, taken_out_named, added, fired_on}
+use Rattle.ops_meaning.specs.Layout.{firing_bytes, halted_line, counted_line, rule_name}
+use Rattle.ops_meaning.specs.Running.{Course, Turned, Session, LastFiring, begun, turn, line_of_pause, line_of_break, last_of, one_less, given_by, ended_in, turned_of, firing, run_on, next_to_fire, command_done, commands_done, is_exit, strategy_given, level_given, breaks_given, in_force, rule_named, taken_out, taken_out_named, added, all_added, turned_on, fired_on}
 use Rattle.ops_meaning.proofs.Doings.{goes_on, goes_as, ok_goes, EndsActions, KeptActed, acted_kept}
 use Rattle.ops_meaning.proofs.Trails.{back_leaves}
 
@@ -25,6 +26,21 @@ turn_leaves : (P : Session → Type 0) (R : Ending → Type 0) (column : ℕ) (l
 turn_leaves P R column (Some line) k next go_on p q = p
 turn_leaves P R column None k None go_on p q = p
 turn_leaves P R column None k (Some i) go_on p q = q i
+
+-- productions that come and go are no firings
+taken_count : (name : Sym) (k : Session) → (taken_out_named name k).course.firings ≡ k.course.firings
+taken_count name k = by (rule_named k.rules name)
+  where
+    by : (at : Option ℕ) → (unwrap_or (option_map (λ n. taken_out n k) at) k).course.firings ≡ k.course.firings
+    by None = refl
+    by (Some n) = refl
+
+all_count : (built : List Rule) (k : Session) → (all_added built k).course.firings ≡ k.course.firings
+all_count [] k = refl
+all_count (r ∷ built) k = all_count built (added r k) ∙ taken_count r.name k
+
+turned_count : (t : Turned) (k : Session) → t.course.firings ≡ k.course.firings + 1 → (turned_on t k).course.firings ≡ k.course.firings + 1
+turned_count t k is = all_count t.built (fired_on t.course k) ∙ is
 
 -- ---- the limit
 
@@ -43,30 +59,8 @@ module _ (limit : ℕ) where
   firing_counts : (s : Setting) (column : ℕ) (i : Inst) (m : Course) → m.firings + 1 ≤ limit → MatchResult (firing s column i m).outcome (λ t. t.course.firings ≡ m.firings + 1) (TellsLimit limit)
   firing_counts s column i m within =
       let behind = column_after column (firing_bytes s.watch column m.names s.rules (m.firings + 1) i) in
-      goes_as (KeptActed m.wm m.last m.names m.coming.fails) (λ (t : Turned). t.course.firings ≡ m.firings + 1) (EndsActions m.coming.fails) (TellsLimit limit) (turned_of s.rules i m) (ended_in (m.firings + 1) i.rule (rule_name s.rules i.rule)) (acted s behind i (given_by m)).outcome
+      goes_as (KeptActed s.templates m.wm m.last m.names m.coming.fails) (λ (t : Turned). t.course.firings ≡ m.firings + 1) (EndsActions m.coming.fails) (TellsLimit limit) (turned_of s.rules i m) (ended_in (m.firings + 1) i.rule (rule_name s.rules i.rule)) (acted s behind i (given_by m)).outcome
       (acted_kept s behind i (given_by m)) (λ a q. refl) (λ e q. ended_tells (m.firings + 1) i.rule (rule_name s.rules i.rule) e within)
-
-  run_limited : (left : ℕ) (s : Setting) (column : ℕ) (last : Option LastFiring) (count : Option ℕ) (k : Session) → k.course.firings + left ≡ limit
-      → MatchResult (run_on left s column last count k).outcome WithinSession (TellsLimit limit)
-  run_limited zero s column last count k is =
-      turn_leaves WithinSession (TellsLimit limit) column (line_of_pause k.course.names s.rules k.breaks last count) k (next_to_fire s.rules k.course) _ (omega arith) (λ i. omega arith)
-  run_limited (suc left) s column last count k is =
-      turn_leaves WithinSession (TellsLimit limit) column (line_of_pause k.course.names s.rules k.breaks last count) k (next_to_fire s.rules k.course) _ (omega arith)
-      (λ i. let e = firing s column i k.course in
-      goes_on (λ (t : Turned). t.course.firings ≡ k.course.firings + 1) WithinSession (TellsLimit limit) e.bytes e.outcome (λ t. run_on left s (column_after column e.bytes) (last_of i t) (one_less count) (fired_on t.course k)) (firing_counts s column i k.course (omega arith))
-      (λ t q. run_limited left s (column_after column e.bytes) (last_of i t) (one_less count) (fired_on t.course k) (omega arith)))
-
-  strategy_limited : (column : ℕ) (set : Option Strategy) (k : Session) → WithinSession k → KeepsLimit limit (strategy_given column set k).outcome
-  strategy_limited column None k p = p
-  strategy_limited column (Some g) k p = p
-
-  level_limited : (column : ℕ) (set : Option ℕ) (k : Session) → WithinSession k → KeepsLimit limit (level_given column set k).outcome
-  level_limited column None k p = p
-  level_limited column (Some n) k p = p
-
-  breaks_limited : (s : Setting) (column : ℕ) (names : List Sym) (k : Session) → WithinSession k → KeepsLimit limit (breaks_given s column names k).outcome
-  breaks_limited s column [] k p = p
-  breaks_limited s column (n ∷ ns) k p = p
 
   taken_within : (n : ℕ) (k : Session) → WithinSession k → WithinSession (taken_out n k)
   taken_within n k p = p
@@ -80,6 +74,29 @@ module _ (limit : ℕ) where
 
   added_within : (r : Rule) (k : Session) → WithinSession k → WithinSession (added r k)
   added_within r k p = named_within r.name k p
+
+  run_limited : (left : ℕ) (s : Setting) (column : ℕ) (last : Option LastFiring) (count : Option ℕ) (k : Session) → k.course.firings + left ≡ limit
+      → MatchResult (run_on left s column last count k).outcome WithinSession (TellsLimit limit)
+  run_limited zero s column last count k is =
+      turn_leaves WithinSession (TellsLimit limit) column (line_of_pause k.course.names k.rules k.breaks last count) k (next_to_fire k.rules k.course) _ (omega arith) (λ i. omega arith)
+  run_limited (suc left) s column last count k is =
+      turn_leaves WithinSession (TellsLimit limit) column (line_of_pause k.course.names k.rules k.breaks last count) k (next_to_fire k.rules k.course) _ (omega arith)
+      (λ i. let e = firing (in_force s k) column i k.course in
+      goes_on (λ (t : Turned). t.course.firings ≡ k.course.firings + 1) WithinSession (TellsLimit limit) e.bytes e.outcome (λ t. run_on left s (column_after column e.bytes) (last_of k.rules i t) (one_less count) (turned_on t k))
+      (firing_counts (in_force s k) column i k.course (omega arith))
+      (λ t q. let counted = turned_count t k q in run_limited left s (column_after column e.bytes) (last_of k.rules i t) (one_less count) (turned_on t k) (omega arith)))
+
+  strategy_limited : (column : ℕ) (set : Option Strategy) (k : Session) → WithinSession k → KeepsLimit limit (strategy_given column set k).outcome
+  strategy_limited column None k p = p
+  strategy_limited column (Some g) k p = p
+
+  level_limited : (column : ℕ) (set : Option ℕ) (k : Session) → WithinSession k → KeepsLimit limit (level_given column set k).outcome
+  level_limited column None k p = p
+  level_limited column (Some n) k p = p
+
+  breaks_limited : (s : Setting) (column : ℕ) (names : List Sym) (k : Session) → WithinSession k → KeepsLimit limit (breaks_given s column names k).outcome
+  breaks_limited s column [] k p = p
+  breaks_limited s column (n ∷ ns) k p = p
 
   excised_within : (names : List Sym) (k : Session) → WithinSession k → WithinSession (fold (λ k name. taken_out_named name k) k names)
   excised_within [] k p = p
@@ -130,31 +147,31 @@ Any e = Unit {0}
 turn_stops : (P : Session → Type 0) (R : Ending → Type 0) (column : ℕ) (names : Spellings) (rules : List Rule) (last : Option LastFiring) (k : Session) (next : Option Inst) (go_on : Inst → Effect Ending Session) → P k
     → MatchResult (turn column (line_of_pause names rules k.breaks last (Some zero)) k next go_on).outcome P R
 turn_stops P R column names rules None k next go_on p = p
-turn_stops P R column names rules (Some l) k next go_on p = by l.halted (has_break k.breaks l.rule)
+turn_stops P R column names rules (Some l) k next go_on p = by l.halted (line_of_break names rules k.breaks l.rule)
   where
-    by : (halted broken : Bool) → MatchResult (turn column (cond halted (Some halted_line) (cond broken (Some (broken_line names (rule_name rules l.rule))) (Some counted_line))) k next go_on).outcome P R
+    by : (halted : Bool) (broken : Option (List ℕ)) → MatchResult (turn column (cond halted (Some halted_line) (option_or broken (Some counted_line))) k next go_on).outcome P R
     by true broken = p
-    by false true = p
-    by false false = p
+    by false (Some line) = p
+    by false None = p
 
 run_counted : (bound left : ℕ) (s : Setting) (column : ℕ) (last : Option LastFiring) (n : ℕ) (k : Session) → k.course.firings + n ≡ bound
     → MatchResult (run_on left s column last (Some n) k).outcome (AtMost bound) Any
 run_counted bound zero s column last n k is =
-    turn_leaves (AtMost bound) Any column (line_of_pause k.course.names s.rules k.breaks last (Some n)) k (next_to_fire s.rules k.course) _ (omega arith) (λ i. tt)
+    turn_leaves (AtMost bound) Any column (line_of_pause k.course.names k.rules k.breaks last (Some n)) k (next_to_fire k.rules k.course) _ (omega arith) (λ i. tt)
 run_counted bound (suc left) s column last zero k is =
-    turn_stops (AtMost bound) Any column k.course.names s.rules last k (next_to_fire s.rules k.course) _ (omega arith)
+    turn_stops (AtMost bound) Any column k.course.names k.rules last k (next_to_fire k.rules k.course) _ (omega arith)
 run_counted bound (suc left) s column last (suc n) k is =
-    turn_leaves (AtMost bound) Any column (line_of_pause k.course.names s.rules k.breaks last (Some (suc n))) k (next_to_fire s.rules k.course) _ (omega arith)
-    (λ i. let e = firing s column i k.course in
-    goes_on (λ (t : Turned). t.course.firings ≡ k.course.firings + 1) (AtMost bound) Any e.bytes e.outcome (λ t. run_on left s (column_after column e.bytes) (last_of i t) (one_less (Some (suc n))) (fired_on t.course k)) (counts i)
-    (λ t q. run_counted bound left s (column_after column e.bytes) (last_of i t) (suc n - 1) (fired_on t.course k) (omega arith)))
+    turn_leaves (AtMost bound) Any column (line_of_pause k.course.names k.rules k.breaks last (Some (suc n))) k (next_to_fire k.rules k.course) _ (omega arith)
+    (λ i. let e = firing (in_force s k) column i k.course in
+    goes_on (λ (t : Turned). t.course.firings ≡ k.course.firings + 1) (AtMost bound) Any e.bytes e.outcome (λ t. run_on left s (column_after column e.bytes) (last_of k.rules i t) (one_less (Some (suc n))) (turned_on t k)) (counts i)
+    (λ t q. let counted = turned_count t k q in run_counted bound left s (column_after column e.bytes) (last_of k.rules i t) (suc n - 1) (turned_on t k) (omega arith)))
   where
-    counts : (i : Inst) → MatchResult (firing s column i k.course).outcome (λ (t : Turned). t.course.firings ≡ k.course.firings + 1) Any
+    counts : (i : Inst) → MatchResult (firing (in_force s k) column i k.course).outcome (λ (t : Turned). t.course.firings ≡ k.course.firings + 1) Any
     counts i =
         let m = k.course in
-        let behind = column_after column (firing_bytes s.watch column m.names s.rules (m.firings + 1) i) in
-        goes_as (KeptActed m.wm m.last m.names m.coming.fails) (λ (t : Turned). t.course.firings ≡ m.firings + 1) (EndsActions m.coming.fails) Any (turned_of s.rules i m) (ended_in (m.firings + 1) i.rule (rule_name s.rules i.rule)) (acted s behind i (given_by m)).outcome
-        (acted_kept s behind i (given_by m)) (λ a q. refl) (λ e q. tt)
+        let behind = column_after column (firing_bytes s.watch column m.names k.rules (m.firings + 1) i) in
+        goes_as (KeptActed s.templates m.wm m.last m.names m.coming.fails) (λ (t : Turned). t.course.firings ≡ m.firings + 1) (EndsActions m.coming.fails) Any (turned_of k.rules i m) (ended_in (m.firings + 1) i.rule (rule_name k.rules i.rule)) (acted (in_force s k) behind i (given_by m)).outcome
+        (acted_kept (in_force s k) behind i (given_by m)) (λ a q. refl) (λ e q. tt)
 
 -- a run with a number makes at most this many firings
 pub run_is_counted : (left : ℕ) (s : Setting) (k : Session) → IsCounted left s k

@@ -1,12 +1,10 @@
 -- Each symbol keeps its spelling where fresh atoms are made and atoms are accepted: so the line that tells an ending is
 -- the same with the names as they were.
-use Rattle.std.proofs.Common.{◌≡◌, ℕ, zero, suc, ◌<◌, Bool, true, false, ◌&&◌, List, ◌++◌, ◌∷◌, [], length, Some, Result, Ok, Err, refl, sym, ap, ◌∙◌, nat_lt, slice_get, unwrap_or}
-use Rattle.std.specs.List.{list_all}
-use Rattle.std.proofs.lemmas.Bool.{cond_both, ltb-true}
+use Rattle.std.proofs.Common.{◌≡◌, ℕ, ◌<◌, Bool, true, false, ◌&&◌, List, ◌++◌, ◌∷◌, [], length, Some, Result, Ok, Err, refl, sym, ap, ◌∙◌, nat_lt, slice_get, unwrap_or}
+use Rattle.std.proofs.lemmas.Bool.{cond_both}
 use Rattle.std.proofs.lemmas.Option.{slice_get-get_or}
 use Rattle.ops_base.specs.declared.endings.Ending.{Ending}
 use Rattle.ops_base.specs.declared.endings.Ending.TheVariants as ending
-use Rattle.ops_base.specs.declared.rules.Rule.{Rule}
 use Rattle.ops_base.specs.declared.values.Sym.{Sym}
 use Rattle.ops_base.specs.Names.{Spellings, place_of, with_spelling, with_fresh, fresh_spelling, next_fresh, spelling_of}
 use Rattle.ops_base.proofs.Held.{kept-push}
@@ -15,8 +13,7 @@ use Rattle.ops_tokens.specs.Accepting.{Accepted, Atom, Number, Spelled, most_acc
 use Rattle.ops_tokens.specs.declared.accept.AcceptFault.{AcceptFault}
 use Rattle.ops_tokens.specs.declared.accept.AcceptFault.TheVariants as fault
 use Rattle.ops_meaning.specs.Kept.{KeepsNames}
-use Rattle.ops_meaning.specs.Layout.{rule_name, last_line}
-use Rattle.ops_base.specs.Symbols.{symbol_held, part_held, action_held, rule_held}
+use Rattle.ops_meaning.specs.Layout.{last_line}
 
 pub names_stay : (names : Spellings) → KeepsNames names names
 names_stay names i s h = h
@@ -61,19 +58,6 @@ spelling_kept : (old new : Spellings) (x : Sym) → KeepsNames old new → x.0 <
 spelling_kept old new x keeps held =
     let there = slice_get-get_or old.held x.0 [] held in
     ap (λ o. unwrap_or o []) (keeps x.0 _ there) ∙ ap (λ o. unwrap_or o []) (sym there)
-
-first_and : (a b : Bool) → (a && b) ≡ true → (a ≡ true) × (b ≡ true)
-first_and true b h = (refl, h)
-first_and false b h = absurd (cc)
-
--- the name of a rule is held, and so is that of none, which is nil
-pub name_held : (held : ℕ) (rules : List Rule) (n : ℕ) → 0 < held → list_all (rule_held held) rules ≡ true → (rule_name rules n).0 < held
-name_held held [] n some h = some
-name_held held (r ∷ rules) zero some h =
-    let whole = first_and (rule_held held r) (list_all (rule_held held) rules) h in
-    let front = first_and (symbol_held held r.name && list_all (part_held held) r.conditions) (list_all (action_held held) r.actions) whole.0 in
-    ltb-true r.name.0 held (first_and (symbol_held held r.name) (list_all (part_held held) r.conditions) front.0).0
-name_held held (r ∷ rules) (suc n) some h = name_held held rules n some (first_and (rule_held held r) (list_all (rule_held held) rules) h).1
 
 -- the production that an ending names has a spelling among this many
 abbrev pub IsToldBy : ℕ → Ending → Type 0

@@ -25,10 +25,10 @@ use Rattle.ops_base.proofs.ConflictSetLaws.{conflict_set-is, conflict_set_only}
 use Rattle.ops_io.specs.Coming.{Coming}
 use Rattle.ops_io.specs.Output.{column_after}
 use Rattle.ops_meaning.specs.Acting.{Setting, Misdeed, Bad, NoInput, Given, Acted, acted, change_lines}
-use Rattle.ops_meaning.specs.Effects.{Effect, writes, led_by, going_on, and_then, told_as, outcome_as}
+use Rattle.ops_meaning.specs.Effects.{Effect, writes, led_by, going_on, and_then, outcome_as}
 use Rattle.ops_meaning.specs.Kept.{WellKept, KeepsNames, IsLawfulOver, ActsLawfully, FindsConflictSets, GoesByConflictSets}
 use Rattle.ops_meaning.specs.Layout.{firing_bytes, inst_text, rule_name, traced}
-use Rattle.ops_meaning.specs.Running.{Finder, Find, in_force, rule_named, taken_out, taken_out_named, added, Course, Turned, Session, LastFiring, nothing_yet, begun, turn, line_of_pause, last_of, one_less, next_by, phase_by, marked, turned_by, given_by, ended_in, firing_by, run_by, with_course, lists, element_made, removals, ranked, standing_by, strategy_given, level_given, breaks_given, run_given, is_exit, phase_told, command_by, commands_by, turned_of, firing, run_on, next_to_fire, phase_done, command_done, commands_done, session_of, Earlier, earlier, gone_back, fired_on, trail_emptied, states_kept, restored, back_given, is_back}
+use Rattle.ops_meaning.specs.Running.{Finder, Find, in_force, rule_named, taken_out, taken_out_named, added, all_added, turned_on, Course, Turned, Session, LastFiring, nothing_yet, begun, turn, line_of_pause, last_of, one_less, next_by, phase_by, marked, turned_by, given_by, ended_in, firing_by, run_by, with_course, lists, element_made, removals, ranked, standing_by, strategy_given, level_given, breaks_given, is_exit, phase_told, command_by, commands_by, turned_of, firing, run_on, next_to_fire, phase_done, command_done, commands_done, session_of, Earlier, earlier, gone_back, fired_on, trail_emptied, states_kept, restored, is_back}
 use Rattle.ops_meaning.proofs.Lawful.{added_kept, kept_after, removals_lawful, removals_last, clearing_lawful, clearing_last}
 use Rattle.ops_meaning.proofs.NamesKept.{names_stay, names_then}
 use Rattle.ops_meaning.proofs.Trails.{AreKept, back_leaves, none_kept, firing_kept_too, those_before, is_kept, none_yet}
@@ -37,7 +37,7 @@ use Rattle.ops_meaning.proofs.Doings.{goes_on, goes_as, ok_goes, EndsActions, Ke
 -- a right side acts lawfully
 pub acts_lawfully : (s : Setting) (column : ℕ) (i : Inst) (g : Given) → ActsLawfully s column i g
 acts_lawfully s column i g well =
-    ok_goes (KeptActed g.wm g.last g.names g.coming.fails) (IsLawfulOver g.wm g.last) (EndsActions g.coming.fails) (acted s column i g).outcome (acted_kept s column i g) (λ a p. p.lawful well)
+    ok_goes (KeptActed s.templates g.wm g.last g.names g.coming.fails) (IsLawfulOver g.wm g.last) (EndsActions g.coming.fails) (acted s column i g).outcome (acted_kept s column i g) (λ a p. p.lawful well)
 
 -- ---- what the parts of a session leave
 
@@ -101,7 +101,7 @@ module _ (names : Spellings) (fails : Bool) where
   ended_kept m firing rule name (Bad n k) p q = tt
   ended_kept m firing rule name NoInput p q = sym p.coming ∙ q
 
-  turned_kept : (s : Setting) (i : Inst) (m : Course) (a : Acted) → Kept m → KeptActed m.wm m.last m.names m.coming.fails a → KeptTurned (turned_of s.rules i m a)
+  turned_kept : (s : Setting) (i : Inst) (m : Course) (a : Acted) → Kept m → KeptActed s.templates m.wm m.last m.names m.coming.fails a → KeptTurned (turned_of s.rules i m a)
   turned_kept s i m a p q = record {
     memory = let lawful = q.lawful p.memory in lawful.kept;
     keeps = names_then names m.names a.names p.keeps q.keeps;
@@ -111,8 +111,30 @@ module _ (names : Spellings) (fails : Bool) where
   firing_kept : (s : Setting) (column : ℕ) (i : Inst) (m : Course) → Kept m → MatchResult (firing s column i m).outcome KeptTurned Ends
   firing_kept s column i m p =
       let behind = column_after column (firing_bytes s.watch column m.names s.rules (m.firings + 1) i) in
-      goes_as (KeptActed m.wm m.last m.names m.coming.fails) KeptTurned (EndsActions m.coming.fails) Ends (turned_of s.rules i m) (ended_in (m.firings + 1) i.rule (rule_name s.rules i.rule)) (acted s behind i (given_by m)).outcome
+      goes_as (KeptActed s.templates m.wm m.last m.names m.coming.fails) KeptTurned (EndsActions m.coming.fails) Ends (turned_of s.rules i m) (ended_in (m.firings + 1) i.rule (rule_name s.rules i.rule)) (acted s behind i (given_by m)).outcome
       (acted_kept s behind i (given_by m)) (λ a q. turned_kept s i m a p q) (λ e q. ended_kept m (m.firings + 1) i.rule (rule_name s.rules i.rule) e p q)
+
+  -- a production that comes or goes changes no memory, no name and no input
+  taken_kept : (n : ℕ) (k : Session) → Good k → Good (taken_out n k)
+  taken_kept n k p = (record { memory = p.0.memory; keeps = p.0.keeps; coming = p.0.coming }, (emptied_kept k p).1)
+
+  named_kept : (name : Sym) (k : Session) → Good k → Good (taken_out_named name k)
+  named_kept name k p = by (rule_named k.rules name)
+    where
+      by : (at : Option ℕ) → Good (unwrap_or (option_map (λ n. taken_out n k) at) k)
+      by None = p
+      by (Some n) = taken_kept n k p
+
+  added_kept_well : (r : Rule) (k : Session) → Good k → Good (added r k)
+  added_kept_well r k p = emptied_kept (taken_out_named r.name k) (named_kept r.name k p)
+
+  all_added_kept : (built : List Rule) (k : Session) → Good k → Good (all_added built k)
+  all_added_kept [] k p = p
+  all_added_kept (r ∷ built) k p = all_added_kept built (added r k) (added_kept_well r k p)
+
+  -- what a firing leaves, and then the productions that it built
+  turned_kept_on : (t : Turned) (k : Session) → Good k → Kept t.course → Good (turned_on t k)
+  turned_kept_on t k p q = all_added_kept t.built (fired_on t.course k) (fired_kept t.course k p q)
 
   turn_kept : (column : ℕ) (line : Option (List ℕ)) (k : Session) (next : Option Inst) (go_on : Inst → Effect Ending Session) → Good k
       → ((i : Inst) → MatchResult (go_on i).outcome Good Ends) → MatchResult (turn column line k next go_on).outcome Good Ends
@@ -123,12 +145,12 @@ module _ (names : Spellings) (fails : Bool) where
   run_kept : (left : ℕ) (s : Setting) (column : ℕ) (last : Option LastFiring) (count : Option ℕ) (k : Session) → Good k
       → MatchResult (run_on left s column last count k).outcome Good Ends
   run_kept zero s column last count k p =
-      turn_kept column (line_of_pause k.course.names s.rules k.breaks last count) k (next_to_fire s.rules k.course) _ p (λ i. tt)
+      turn_kept column (line_of_pause k.course.names k.rules k.breaks last count) k (next_to_fire k.rules k.course) _ p (λ i. tt)
   run_kept (suc left) s column last count k p =
-      turn_kept column (line_of_pause k.course.names s.rules k.breaks last count) k (next_to_fire s.rules k.course) _ p
-      (λ i. let e = firing s column i k.course in
-      goes_on KeptTurned Good Ends e.bytes e.outcome (λ t. run_on left s (column_after column e.bytes) (last_of i t) (one_less count) (fired_on t.course k)) (firing_kept s column i k.course p.0)
-      (λ t q. run_kept left s (column_after column e.bytes) (last_of i t) (one_less count) (fired_on t.course k) (fired_kept t.course k p q)))
+      turn_kept column (line_of_pause k.course.names k.rules k.breaks last count) k (next_to_fire k.rules k.course) _ p
+      (λ i. let e = firing (in_force s k) column i k.course in
+      goes_on KeptTurned Good Ends e.bytes e.outcome (λ t. run_on left s (column_after column e.bytes) (last_of k.rules i t) (one_less count) (turned_on t k)) (firing_kept (in_force s k) column i k.course p.0)
+      (λ t q. run_kept left s (column_after column e.bytes) (last_of k.rules i t) (one_less count) (turned_on t k) (turned_kept_on t k p q)))
 
   -- a phase that leaves working memory well kept
   phase_kept : (s : Setting) (column : ℕ) (changes : List Change) (last : ℕ) (k : Session) → Good k → WellKept (done k.course.wm changes) last
@@ -147,20 +169,6 @@ module _ (names : Spellings) (fails : Bool) where
   breaks_kept : (s : Setting) (column : ℕ) (names : List Sym) (k : Session) → Good k → MatchResult (breaks_given s column names k).outcome Good Ends
   breaks_kept s column [] k p = p
   breaks_kept s column (n ∷ ns) k p = p
-
-  -- a production that comes or goes changes no memory, no name and no input
-  taken_kept : (n : ℕ) (k : Session) → Good k → Good (taken_out n k)
-  taken_kept n k p = (record { memory = p.0.memory; keeps = p.0.keeps; coming = p.0.coming }, (emptied_kept k p).1)
-
-  named_kept : (name : Sym) (k : Session) → Good k → Good (taken_out_named name k)
-  named_kept name k p = by (rule_named k.rules name)
-    where
-      by : (at : Option ℕ) → Good (unwrap_or (option_map (λ n. taken_out n k) at) k)
-      by None = p
-      by (Some n) = taken_kept n k p
-
-  added_kept_well : (r : Rule) (k : Session) → Good k → Good (added r k)
-  added_kept_well r k p = emptied_kept (taken_out_named r.name k) (named_kept r.name k p)
 
   excised_kept : (given : List Sym) (k : Session) → Good k → Good (fold (λ k name. taken_out_named name k) k given)
   excised_kept [] k p = p
@@ -259,7 +267,7 @@ module _ (s : Setting) (found : Finder) (finds : FindsConflictSets s.rules found
 
   turned_is : (i : Inst) (m : Course) (a : Acted) → IsLawfulOver m.wm m.last a → turned_of s.rules i m a ≡ turned_by found i m a
   turned_is i m a p =
-      ap (λ k. let c : Course = record k { names = a.names; coming = a.coming } in let t : Turned = record { course = c; halted = a.halted } in t)
+      ap (λ k. let c : Course = record k { names = a.names; coming = a.coming } in let t : Turned = record { course = c; halted = a.halted; built = a.built } in t)
       (phase_is a.changes (m.firings + 1) a.last (marked i m) p.kept.0)
 
   firing_is : (column : ℕ) (i : Inst) (m : Course) → Well m → firing s column i m ≡ firing_by found s column i m
@@ -268,43 +276,41 @@ module _ (s : Setting) (found : Finder) (finds : FindsConflictSets s.rules found
       let behind = column_after column line in
       let e = acted s behind i (given_by m) in
       ap (λ o. let f : Effect Ending Turned = record { bytes = e.bytes; outcome = o } in led_by line f)
-      (same_as (KeptActed m.wm m.last m.names m.coming.fails) (EndsActions m.coming.fails) (turned_of s.rules i m) (turned_by found i m) (ended_in (m.firings + 1) i.rule (rule_name s.rules i.rule)) e.outcome
+      (same_as (KeptActed s.templates m.wm m.last m.names m.coming.fails) (EndsActions m.coming.fails) (turned_of s.rules i m) (turned_by found i m) (ended_in (m.firings + 1) i.rule (rule_name s.rules i.rule)) e.outcome
       (acted_kept s behind i (given_by m)) (λ a q. turned_is i m a (q.lawful p.memory)))
 
-  run_is : (left : ℕ) (column : ℕ) (last : Option LastFiring) (count : Option ℕ) (k : Session) → KeptSession names fails k
-      → run_on left s column last count k ≡ run_by found left s column last count k
-  run_is zero column last count k p =
-      same_turn column (line_of_pause k.course.names s.rules k.breaks last count) k _ _ _ _ (next_is k.course p.0) (λ i. refl)
-  run_is (suc left) column last count k p =
-      same_turn column (line_of_pause k.course.names s.rules k.breaks last count) k _ _ _ _ (next_is k.course p.0)
-      (λ i. let e = firing s column i k.course in
-      same_then WellTurned Ended e.bytes e.outcome
-      (λ t. run_on left s (column_after column e.bytes) (last_of i t) (one_less count) (fired_on t.course k))
-      (λ t. run_by found left s (column_after column e.bytes) (last_of i t) (one_less count) (fired_on t.course k))
-      (firing_kept names fails s column i k.course p.0)
-      (λ t q. run_is left (column_after column e.bytes) (last_of i t) (one_less count) (fired_on t.course k) (fired_kept names fails t.course k p q))
-      ∙ ap (λ e. and_then column e (λ next t. run_by found left s next (last_of i t) (one_less count) (fired_on t.course k))) (firing_is column i k.course p.0))
+module _ (find : Find) (finds : (rules : List Rule) → FindsConflictSets rules (find rules)) (names : Spellings) (fails : Bool) where
+  run_is : (left : ℕ) (s : Setting) (column : ℕ) (last : Option LastFiring) (count : Option ℕ) (k : Session) → KeptSession names fails k
+      → run_on left s column last count k ≡ run_by find left s column last count k
+  run_is zero s column last count k p =
+      same_turn column (line_of_pause k.course.names k.rules k.breaks last count) k _ _ _ _ (next_is (in_force s k) (find k.rules) (finds k.rules) names fails k.course p.0) (λ i. refl)
+  run_is (suc left) s column last count k p =
+      same_turn column (line_of_pause k.course.names k.rules k.breaks last count) k _ _ _ _ (next_is (in_force s k) (find k.rules) (finds k.rules) names fails k.course p.0)
+      (λ i. let e = firing (in_force s k) column i k.course in
+      same_then (λ (t : Turned). KeptCourse names fails t.course) (EndsSession fails) e.bytes e.outcome
+      (λ t. run_on left s (column_after column e.bytes) (last_of k.rules i t) (one_less count) (turned_on t k))
+      (λ t. run_by find left s (column_after column e.bytes) (last_of k.rules i t) (one_less count) (turned_on t k))
+      (firing_kept names fails (in_force s k) column i k.course p.0)
+      (λ t q. run_is left s (column_after column e.bytes) (last_of k.rules i t) (one_less count) (turned_on t k) (turned_kept_on names fails t k p q))
+      ∙ ap (λ e. and_then column e (λ next t. run_by find left s next (last_of k.rules i t) (one_less count) (turned_on t k)))
+      (firing_is (in_force s k) (find k.rules) (finds k.rules) names fails column i k.course p.0))
 
-module _ (s : Setting) (found : Finder) (finds : FindsConflictSets s.rules found) (names : Spellings) (fails : Bool) where
+module _ (s : Setting) (find : Find) (finds : (rules : List Rule) → FindsConflictSets rules (find rules)) (names : Spellings) (fails : Bool) where
   abbrev WellSession : Session → Type 0
   WellSession k = KeptSession names fails k
 
   phase_told_is : (column : ℕ) (changes : List Change) (last : ℕ) (k : Session) → HasRisingTags (done k.course.wm changes)
-      → phase_done s column changes last k ≡ phase_told found s column changes last k
+      → phase_done s column changes last k ≡ phase_told (find s.rules) s column changes last k
   phase_told_is column changes last k rising =
       ap (λ m. writes (traced k.watch column (change_lines k.course.names s.classes k.course.wm changes)) (with_course k m))
-      (phase_is s found finds names fails changes k.course.firings last k.course rising)
+      (phase_is s (find s.rules) (finds s.rules) names fails changes k.course.firings last k.course rising)
 
-  standing_is : (k : Session) → WellSession k → standing_by (conflict_set s.rules) s.rules k.course ≡ standing_by found s.rules k.course
+  standing_is : (k : Session) → WellSession k → standing_by (conflict_set s.rules) s.rules k.course ≡ standing_by (find s.rules) s.rules k.course
   standing_is k p =
       ap (λ set. let insts = unfired set k.course.fired in ranked (length insts) k.course.strategy s.rules insts)
-      (found_is s found finds names fails k.course.wm p.0.memory.0)
+      (found_is s (find s.rules) (finds s.rules) names fails k.course.wm p.0.memory.0)
 
-  run_given_is : (limit column : ℕ) (count : Option ℕ) (k : Session) → WellSession k → run_given (conflict_set s.rules) s limit column count k ≡ run_given found s limit column count k
-  run_given_is limit column count k p =
-      run_is (record s { watch = k.watch }) found finds names fails (limit - k.course.firings) column None count k p
-
-  command_is : (limit column : ℕ) (c : Command) (k : Session) → WellSession k → command_done s limit column c k ≡ command_by found s limit column c k
+  command_is : (limit column : ℕ) (c : Command) (k : Session) → WellSession k → command_done s limit column c k ≡ command_by find s limit column c k
   command_is limit column (command.Make class puts) k p =
       let well = added_kept k.course.wm k.course.last (element_made s.classes class puts k.course) (omega arith) p.0.memory in
       phase_told_is column (change.Add (element_made s.classes class puts k.course) ∷ []) (k.course.last + 1) (trail_emptied k) well.0
@@ -314,7 +320,8 @@ module _ (s : Setting) (found : Finder) (finds : FindsConflictSets s.rules found
   command_is limit column command.RemoveAll k p =
       let well = kept_after k.course.wm k.course.last (map change.Remove (tags_of k.course.wm)) p.0.memory (clearing_lawful k.course.wm k.course.last p.0.memory.0) (clearing_last k.course.last (tags_of k.course.wm)) in
       phase_told_is column (map change.Remove (tags_of k.course.wm)) k.course.last (trail_emptied k) well.0
-  command_is limit column (command.Run count) k p = run_given_is limit column count k p
+  command_is limit column (command.Run count) k p =
+      run_is find finds names fails (limit - k.course.firings) (record s { watch = k.watch }) column None count k p
   command_is limit column (command.Wm tags) k p = refl
   command_is limit column (command.Ppwm pattern) k p = refl
   command_is limit column command.Cs k p =
@@ -341,7 +348,7 @@ module _ (s : Setting) (find : Find) (finds : (rules : List Rule) → FindsConfl
       (command_kept names fails (in_force s k) limit column c k p)
       (λ k q. commands_are limit (column_after column e.bytes) rest k q)
       ∙ ap (λ e. and_then column e (λ next k. commands_by find s limit next rest k))
-      (command_is (in_force s k) (find k.rules) (finds k.rules) names fails limit column c k p))
+      (command_is (in_force s k) find finds names fails limit column c k p))
 
 -- a session goes by the conflict sets of the productions in force, however they are found
 pub session_goes : (s : Setting) (limit : ℕ) (commands : List Command) (names : Spellings) → GoesByConflictSets s limit commands names

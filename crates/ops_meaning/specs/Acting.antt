@@ -18,11 +18,14 @@ use Rattle.ops_base.specs.declared.actions.Item.{Item}
 use Rattle.ops_base.specs.declared.actions.Item.TheVariants as item
 use Rattle.ops_base.specs.declared.actions.Action.{Action}
 use Rattle.ops_base.specs.declared.actions.Action.TheVariants as action
+use Rattle.ops_base.specs.declared.actions.Hole.{Hole}
+use Rattle.ops_base.specs.declared.filling.Filling.{Filling}
 use Rattle.ops_base.specs.declared.rules.Rule.{Rule}
 use Rattle.ops_base.specs.declared.rules.Inst.{Inst}
 use Rattle.ops_base.specs.declared.endings.ActKind.{ActKind}
 use Rattle.ops_base.specs.declared.endings.ActKind.TheVariants as act_fault
 use Rattle.ops_base.specs.Values.{nil}
+use Rattle.ops_base.specs.Filling.{rule_filled}
 use Rattle.ops_base.specs.Valid.{class_of, is_vector, most_fields}
 use Rattle.ops_base.specs.Names.{Spellings, with_fresh}
 use Rattle.ops_base.specs.WorkingMemory.{change_done, field_of, no_fields, scalar_count}
@@ -35,10 +38,12 @@ use Rattle.ops_meaning.specs.Effects.{Effect, writes, ends_with, and_then, told_
 use Rattle.ops_meaning.specs.Computing.{Computed, computed}
 use Rattle.ops_meaning.specs.Layout.{Lead, Apart, Close, RightIn, values_bytes, tab_bytes, tagged_text, traced}
 
--- what stands still during a run: the classes, the rules and the bytes of the program, and the trace level
+-- what stands still during a firing: the classes, the productions in force, the productions that actions build with a
+-- constant in the place of each hole, the bytes of the program, and the trace level
 pub record Setting : Type 0 where
   pub classes : List Class
   pub rules : List Rule
+  pub templates : List Rule
   pub text : List ℕ
   pub watch : ℕ
 
@@ -79,8 +84,8 @@ actions_of rules n = unwrap_or (option_map (λ r. r.actions) (slice_get rules n)
 -- ---- what a right side has done so far
 
 -- working memory now and the changes that led to it, the last tag that was given, what the variables are bound to, the
--- elements that the cells hold, whether `halt` was done, the spellings in use with the number of the last fresh atom,
--- and the input that is still to come
+-- elements that the cells hold, whether `halt` was done, the productions that were built, the spellings in use with the
+-- number of the last fresh atom, and the input that is still to come
 pub record ActState : Type 0 where
   pub wm : List Element
   pub changes : List Change
@@ -88,6 +93,7 @@ pub record ActState : Type 0 where
   pub bindings : List Binding
   pub cells : List Element
   pub halted : Bool
+  pub built : List Rule
   pub names : Spellings
   pub coming : Coming
 
@@ -241,6 +247,20 @@ cell_bound d = record d { cells = d.cells ++ made_last d.changes ∷ [] }
 abbrev pub bound : ActState → ℕ → Value → ActState
 bound d variable value = record d { bindings = d.bindings ++ record { variable = variable; value = value } ∷ [] }
 
+-- ---- build
+
+-- What the holes are filled with: what their variables are bound to.
+abbrev pub fillings : List Binding → List Hole → List Filling
+fillings bindings holes = map (λ h. record { number = h.number; value = unwrap_or (value_of bindings h.variable) nil }) holes
+
+-- the production that the template with this number gives, none where there is no such template
+abbrev pub filled_from : List Rule → ℕ → List Filling → List Rule
+filled_from templates template fs = unwrap_or (option_map (λ r. rule_filled fs r ∷ []) (slice_get templates template)) []
+
+-- It joins those that were built before. The holes are filled with what their variables are bound to now.
+abbrev pub rule_built : List Rule → ℕ → List Hole → ActState → ActState
+rule_built templates template holes d = record d { built = d.built ++ filled_from templates template (fillings d.bindings holes) }
+
 -- ---- write
 
 -- what the item before leaves to a value
@@ -299,7 +319,7 @@ action_done s column (action.Bind variable t) d =
     silent (followed_by (evaluated s.classes t d) (λ v. Ok (bound v.doing variable (first_of v.values))))
 action_done s column (action.Cbind cell) d = writes [] (cell_bound d)
 action_done s column action.Halt d = writes [] (record d { halted = true })
-action_done s column (action.Build template holes) d = writes [] d
+action_done s column (action.Build template holes) d = writes [] (rule_built s.templates template holes d)
 
 -- the actions in order, the first of which has this number
 abbrev pub actions_done : Setting → ℕ → ℕ → List Action → ActState → Effect Misdeed ActState
@@ -316,12 +336,13 @@ pub record Given : Type 0 where
   pub names : Spellings
   pub coming : Coming
 
--- the changes to working memory, in order, the last tag that was given, whether `halt` was done, the spellings in use,
--- and the input that is still to come
+-- the changes to working memory, in order, the last tag that was given, whether `halt` was done, the productions that
+-- were built, in the order of their `build` actions, the spellings in use, and the input that is still to come
 pub record Acted : Type 0 where
   pub changes : List Change
   pub last : ℕ
   pub halted : Bool
+  pub built : List Rule
   pub names : Spellings
   pub coming : Coming
 
@@ -335,12 +356,13 @@ begun s i g =
       bindings = bindings_of g.wm (conditions_of s.rules i.rule) i.tags [];
       cells = elements_of g.wm i.tags;
       halted = false;
+      built = [];
       names = g.names;
       coming = g.coming;
     }
 
 abbrev pub left_by : ActState → Acted
-left_by d = record { changes = d.changes; last = d.last; halted = d.halted; names = d.names; coming = d.coming }
+left_by d = record { changes = d.changes; last = d.last; halted = d.halted; built = d.built; names = d.names; coming = d.coming }
 
 -- what the right side of an instantiation does from a column on
 abbrev pub acted : Setting → ℕ → Inst → Given → Effect Misdeed Acted

@@ -1,13 +1,15 @@
--- What a session keeps of working memory and of the names, that its right sides act lawfully, and that its conflict
--- sets are the sets of all instantiations.
-use Rattle.std.specs.Prelude.{◌≡◌, ℕ, ◌≤◌, ◌+◌, List, Result, IfOk, MatchResult, Some, None, slice_get}
+-- What a session keeps of working memory and of the names, that its right sides act lawfully, what they build, and that
+-- its conflict sets are the sets of all instantiations.
+use Rattle.std.specs.Prelude.{◌≡◌, ℕ, ◌≤◌, ◌+◌, List, [], ◌∷◌, Result, IfOk, MatchResult, Some, None, slice_get}
 use Rattle.std.specs.List.{All}
 use Rattle.ops_base.specs.declared.elements.Element.{Element}
+use Rattle.ops_base.specs.declared.filling.Filling.{Filling}
 use Rattle.ops_base.specs.declared.rules.Rule.{Rule}
 use Rattle.ops_base.specs.declared.rules.Inst.{Inst}
 use Rattle.ops_base.specs.declared.commands.Command.{Command}
 use Rattle.ops_base.specs.declared.endings.Ending.{Ending}
 use Rattle.ops_base.specs.declared.endings.Ending.TheVariants as ending
+use Rattle.ops_base.specs.Filling.{rule_filled}
 use Rattle.ops_base.specs.WorkingMemory.{tags_of, HasRisingTags, done, last_after, Lawful}
 use Rattle.ops_base.specs.Instances.{IsConflictSet}
 use Rattle.ops_base.specs.Names.{Spellings}
@@ -31,6 +33,19 @@ pub record IsLawfulOver (wm : List Element) (last : ℕ) (a : Acted) : Type 0 wh
 -- Over working memory that is well kept a right side acts lawfully.
 abbrev pub ActsLawfully : Setting → ℕ → Inst → Given → Type 0
 ActsLawfully s column i g = WellKept g.wm g.last → IfOk (acted s column i g).outcome (IsLawfulOver g.wm g.last)
+
+-- the production is one of these templates, with other constants in the place of some of its own
+pub record IsFilledFrom (templates : List Rule) (r : Rule) : Type 0 where
+  pub number : ℕ
+  pub template : Rule
+  pub values : List Filling
+  pub there : slice_get templates number ≡ Some template
+  pub filled : r ≡ rule_filled values template
+
+-- the same of each of these productions
+abbrev pub AreFilledFrom : List Rule → List Rule → Type 0
+AreFilledFrom templates [] = Unit {0}
+AreFilledFrom templates (r ∷ rules) = IsFilledFrom templates r × AreFilledFrom templates rules
 
 -- Each symbol keeps its spelling. Of a session this holds from its start on: `back` takes those away that came later.
 abbrev pub KeepsNames : Spellings → Spellings → Type 0

@@ -1,6 +1,7 @@
 -- The recognise-act cycle and the session.
-use Rattle.std.specs.Prelude.{ℕ, zero, suc, ◌+◌, ◌-◌, List, [], ◌∷◌, ◌++◌, length, map, filter, find, position, fold, take, drop, nat_lt, slice_get, slice_set, if◌then◌else◌, Bool, true, false, not, ◌==◌, ◌&&◌, Option, Some, None, is_some, option_map, unwrap_or, Result, Ok, Err}
+use Rattle.std.specs.Prelude.{ℕ, zero, suc, ◌+◌, ◌-◌, List, [], ◌∷◌, ◌++◌, length, map, filter, find, position, fold, take, drop, nat_lt, slice_get, slice_set, if◌then◌else◌, Bool, true, false, not, ◌==◌, ◌&&◌, Option, Some, None, is_some, option_map, option_and_then, unwrap_or, Result, Ok, Err}
 use Rattle.std.specs.List.{list_all, list_any, filter_map, flat_map}
+use Rattle.std.specs.Option.{option_or}
 use Rattle.ops_base.specs.declared.values.Sym.{Sym}
 use Rattle.ops_base.specs.declared.values.Value.{Value}
 use Rattle.ops_base.specs.declared.elements.Class.{Class}
@@ -20,7 +21,7 @@ use Rattle.ops_base.specs.Valid.{class_of, is_vector}
 use Rattle.ops_base.specs.Values.{are_same}
 use Rattle.ops_base.specs.WorkingMemory.{done, field_of, no_fields, tags_of, without_tag}
 use Rattle.ops_base.specs.ConflictSet.{conflict_set}
-use Rattle.ops_base.specs.Live.{without, moved_insts}
+use Rattle.ops_base.specs.Live.{without, moved, moved_insts}
 use Rattle.ops_base.specs.Refraction.{unfired, still_fired, dominant, is_same_inst}
 use Rattle.ops_io.specs.Output.{column_after}
 use Rattle.ops_meaning.specs.Effects.{Effect, writes, ends_with, and_then, told_as, led_by}
@@ -42,10 +43,11 @@ pub record Course : Type 0 where
   pub names : Spellings
   pub coming : Coming
 
--- what a firing leaves, and whether `halt` was done in it
+-- what a firing leaves, whether `halt` was done in it, and the productions that it built
 pub record Turned : Type 0 where
   pub course : Course
   pub halted : Bool
+  pub built : List Rule
 
 -- nothing was done yet, with these names in use, and this input to come
 abbrev pub nothing_yet : Spellings → Coming → Course
@@ -83,6 +85,7 @@ turned_by found i m a =
     record {
       course = record (phase_by found a.changes (m.firings + 1) a.last (marked i m)) { names = a.names; coming = a.coming };
       halted = a.halted;
+      built = a.built;
     }
 
 -- a fault of a right side, which is that of the production with this number and this name, ends the session, and so does
@@ -152,11 +155,55 @@ trail_emptied k = record k { trail = option_map (λ es. []) k.trail }
 abbrev pub fired_on : Course → Session → Session
 fired_on m k = record k { course = m; trail = option_map (λ es. last_kept (es ++ earlier k.course ∷ [])) k.trail }
 
+-- ---- productions that come and go
+
+-- the number of the production of this name
+abbrev pub rule_named : List Rule → Sym → Option ℕ
+rule_named rules name = position (λ r. r.name.0 == name.0) rules
+
+-- these without the production of this name, where there is one
+abbrev pub without_named : List Rule → Sym → List Rule
+without_named rules name = unwrap_or (option_map (λ n. without n rules) (rule_named rules name)) rules
+
+-- The production of this number is taken out, with its break and its marks. The others keep theirs. The trail is emptied.
+abbrev pub taken_out : ℕ → Session → Session
+taken_out n k = record (trail_emptied k) {
+  rules = without n k.rules;
+  breaks = without n k.breaks;
+  course = record k.course { fired = moved_insts n k.course.fired };
+}
+
+-- the same of the production of this name, where there is one
+abbrev pub taken_out_named : Sym → Session → Session
+taken_out_named name k = unwrap_or (option_map (λ n. taken_out n k) (rule_named k.rules name)) k
+
+-- A production stands last, without a break and without marks. One of its name is taken out first. The trail is emptied.
+abbrev pub added : Rule → Session → Session
+added r k = let left = taken_out_named r.name k in record (trail_emptied left) { rules = left.rules ++ r ∷ []; breaks = left.breaks ++ false ∷ [] }
+
+-- these are added, one after the other
+abbrev pub all_added : List Rule → Session → Session
+all_added built k = fold (λ k r. added r k) k built
+
+-- After the phase of a firing the productions that it built are added, in their order.
+abbrev pub turned_on : Turned → Session → Session
+turned_on t k = all_added t.built (fired_on t.course k)
+
+-- the number of a production after this one is added, none where it is taken out for it
+abbrev pub place_beside : List Rule → Rule → Option ℕ → Option ℕ
+place_beside rules r place = unwrap_or (option_map (λ n. option_and_then (moved n) place) (rule_named rules r.name)) place
+
+-- the same after each of these is added in turn
+abbrev pub place_after : List Rule → List Rule → Option ℕ → Option ℕ
+place_after rules [] place = place
+place_after rules (r ∷ built) place = place_after (without_named rules r.name ++ r ∷ []) built (place_beside rules r place)
+
 -- ---- a run
 
--- the last firing of a run: its production, and whether `halt` was done in it
+-- the last firing of a run: its production, none where the firing built another one of its name, and whether `halt` was
+-- done in it
 pub record LastFiring : Type 0 where
-  pub rule : ℕ
+  pub rule : Option ℕ
   pub halted : Bool
 
 -- the production with this number has a break, where this tells which have one
@@ -168,14 +215,17 @@ abbrev pub line_of_count : Option ℕ → Option (List ℕ)
 line_of_count (Some zero) = Some counted_line
 line_of_count _ = None
 
+-- the line of a run whose last firing was of this production, where that has a break
+abbrev pub line_of_break : Spellings → List Rule → List Bool → Option ℕ → Option (List ℕ)
+line_of_break names rules breaks None = None
+line_of_break names rules breaks (Some n) = if has_break breaks n then Some (broken_line names (rule_name rules n)) else None
+
 -- The line of a run that pauses or ends whatever is next: after a firing that did `halt`, after one whose production
 -- has a break, and where it has made all its firings.
 abbrev pub line_of_pause : Spellings → List Rule → List Bool → Option LastFiring → Option ℕ → Option (List ℕ)
 line_of_pause names rules breaks None count = line_of_count count
 line_of_pause names rules breaks (Some last) count =
-    if last.halted then Some halted_line
-    else if has_break breaks last.rule then Some (broken_line names (rule_name rules last.rule))
-    else line_of_count count
+    if last.halted then Some halted_line else option_or (line_of_break names rules breaks last.rule) (line_of_count count)
 
 -- A run ends with its line where it has one, and where nothing is left to fire; otherwise it goes on with what is next.
 abbrev pub turn : ℕ → Option (List ℕ) → Session → Option Inst → (Inst → Effect Ending Session) → Effect Ending Session
@@ -187,18 +237,19 @@ turn column None k (Some i) go_on = go_on i
 abbrev pub one_less : Option ℕ → Option ℕ
 one_less count = option_map (λ n. n - 1) count
 
--- a firing of this instantiation was the last one
-abbrev pub last_of : Inst → Turned → Option LastFiring
-last_of i t = Some (record { rule = i.rule; halted = t.halted })
+-- a firing of this instantiation was the last one, where these productions were in force
+abbrev pub last_of : List Rule → Inst → Turned → Option LastFiring
+last_of rules i t = Some (record { rule = place_after rules t.built (Some i.rule); halted = t.halted })
 
 -- A run from here on, where this many firings are left to the session, this was its last firing, if it made one, and
--- this many are left to it, if it has a number of them.
-abbrev pub run_by : Finder → ℕ → Setting → ℕ → Option LastFiring → Option ℕ → Session → Effect Ending Session
-run_by found zero s column last count k =
-    turn column (line_of_pause k.course.names s.rules k.breaks last count) k (next_by found s.rules k.course) (λ i. ends_with (ending.Limit k.course.firings))
-run_by found (suc left) s column last count k =
-    turn column (line_of_pause k.course.names s.rules k.breaks last count) k (next_by found s.rules k.course)
-    (λ i. and_then column (firing_by found s column i k.course) (λ next t. run_by found left s next (last_of i t) (one_less count) (fired_on t.course k)))
+-- this many are left to it, if it has a number of them. Each turn goes by the productions that are in force in it.
+abbrev pub run_by : Find → ℕ → Setting → ℕ → Option LastFiring → Option ℕ → Session → Effect Ending Session
+run_by find zero s column last count k =
+    turn column (line_of_pause k.course.names k.rules k.breaks last count) k (next_by (find k.rules) k.rules k.course) (λ i. ends_with (ending.Limit k.course.firings))
+run_by find (suc left) s column last count k =
+    turn column (line_of_pause k.course.names k.rules k.breaks last count) k (next_by (find k.rules) k.rules k.course)
+    (λ i. and_then column (firing_by (find k.rules) (in_force s k) column i k.course)
+    (λ next t. run_by find left s next (last_of k.rules i t) (one_less count) (turned_on t k)))
 
 -- ---- commands
 
@@ -263,9 +314,6 @@ ranked (suc n) strategy rules insts =
 abbrev pub standing_by : Finder → List Rule → Course → List Inst
 standing_by found rules m = let insts = unfired (found m.wm) m.fired in ranked (length insts) m.strategy rules insts
 
-abbrev pub rule_named : List Rule → Sym → Option ℕ
-rule_named rules name = position (λ r. r.name.0 == name.0) rules
-
 -- the bytes of a production, from its bracket to its bracket
 abbrev pub rule_text : List ℕ → Rule → List ℕ
 rule_text text r = drop r.first (take r.past text)
@@ -314,27 +362,7 @@ breaks_given s column [] k = lists column (break_lines k.course.names k.breaks 0
 breaks_given s column (n ∷ ns) k =
     writes (lines_at column (map (unknown_line k.course.names) (unknown_of s.rules (n ∷ ns)))) (record k { breaks = all_toggled s.rules (n ∷ ns) k.breaks })
 
--- ---- productions that come and go
-
--- The production of this number is taken out, with its break and its marks. The others keep theirs. The trail is emptied.
-abbrev pub taken_out : ℕ → Session → Session
-taken_out n k = record (trail_emptied k) {
-  rules = without n k.rules;
-  breaks = without n k.breaks;
-  course = record k.course { fired = moved_insts n k.course.fired };
-}
-
--- the same of the production of this name, where there is one
-abbrev pub taken_out_named : Sym → Session → Session
-taken_out_named name k = unwrap_or (option_map (λ n. taken_out n k) (rule_named k.rules name)) k
-
--- A production stands last, without a break and without marks. One of its name is taken out first. The trail is emptied.
-abbrev pub added : Rule → Session → Session
-added r k = let left = taken_out_named r.name k in record (trail_emptied left) { rules = left.rules ++ r ∷ []; breaks = left.breaks ++ false ∷ [] }
-
--- these without the production of this name, where there is one
-abbrev pub without_named : List Rule → Sym → List Rule
-without_named rules name = unwrap_or (option_map (λ n. without n rules) (rule_named rules name)) rules
+-- ---- excise
 
 -- the names of which no production is left when their turn comes, where each takes its own out
 abbrev pub left_unknown : List Rule → List Sym → List Sym
@@ -351,8 +379,8 @@ excised column names k =
 -- ---- each command
 
 -- A run, in a session that makes at most this many firings.
-abbrev pub run_given : Finder → Setting → ℕ → ℕ → Option ℕ → Session → Effect Ending Session
-run_given found s limit column count k = run_by found (limit - k.course.firings) (record s { watch = k.watch }) column None count k
+abbrev pub run_given : Find → Setting → ℕ → ℕ → Option ℕ → Session → Effect Ending Session
+run_given find s limit column count k = run_by find (limit - k.course.firings) (record s { watch = k.watch }) column None count k
 
 -- ---- back
 
@@ -380,30 +408,30 @@ back_given column count k =
 -- What one command does from a column on, in a session that makes at most this many firings, where the productions of
 -- the setting are in force. A top-level `make` is one phase, and so is a `remove`. Each of them empties the trail, also
 -- a `remove` of tags that no element has.
-abbrev pub command_by : Finder → Setting → ℕ → ℕ → Command → Session → Effect Ending Session
-command_by found s limit column (command.Make class puts) k =
-    phase_told found s column (change.Add (element_made s.classes class puts k.course) ∷ []) (k.course.last + 1) (trail_emptied k)
-command_by found s limit column (command.Remove tags) k =
-    phase_told found s column (removals k.course.wm tags) k.course.last (trail_emptied k)
-command_by found s limit column command.RemoveAll k =
-    phase_told found s column (map change.Remove (tags_of k.course.wm)) k.course.last (trail_emptied k)
-command_by found s limit column (command.Run count) k = run_given found s limit column count k
-command_by found s limit column (command.Wm tags) k =
+abbrev pub command_by : Find → Setting → ℕ → ℕ → Command → Session → Effect Ending Session
+command_by find s limit column (command.Make class puts) k =
+    phase_told (find s.rules) s column (change.Add (element_made s.classes class puts k.course) ∷ []) (k.course.last + 1) (trail_emptied k)
+command_by find s limit column (command.Remove tags) k =
+    phase_told (find s.rules) s column (removals k.course.wm tags) k.course.last (trail_emptied k)
+command_by find s limit column command.RemoveAll k =
+    phase_told (find s.rules) s column (map change.Remove (tags_of k.course.wm)) k.course.last (trail_emptied k)
+command_by find s limit column (command.Run count) k = run_given find s limit column count k
+command_by find s limit column (command.Wm tags) k =
     lists column (element_lines k.course.names s.classes (elements_listed k.course.wm tags)) k
-command_by found s limit column (command.Ppwm pattern) k =
+command_by find s limit column (command.Ppwm pattern) k =
     lists column (element_lines k.course.names s.classes (filter (meets pattern) k.course.wm)) k
-command_by found s limit column command.Cs k =
-    lists column (map (inst_text k.course.names s.rules) (standing_by found s.rules k.course)) k
-command_by found s limit column (command.Pm names) k = lists column (map (production_line s k.course.names) names) k
-command_by found s limit column (command.Strategy set) k = strategy_given column set k
-command_by found s limit column (command.Watch set) k = level_given column set k
-command_by found s limit column (command.Pbreak names) k = breaks_given s column names k
-command_by found s limit column (command.Add r) k = writes [] (added r k)
-command_by found s limit column (command.Excise names) k = excised column names k
-command_by found s limit column (command.Back count) k = back_given column count k
-command_by found s limit column (command.Matches names) k =
+command_by find s limit column command.Cs k =
+    lists column (map (inst_text k.course.names s.rules) (standing_by (find s.rules) s.rules k.course)) k
+command_by find s limit column (command.Pm names) k = lists column (map (production_line s k.course.names) names) k
+command_by find s limit column (command.Strategy set) k = strategy_given column set k
+command_by find s limit column (command.Watch set) k = level_given column set k
+command_by find s limit column (command.Pbreak names) k = breaks_given s column names k
+command_by find s limit column (command.Add r) k = writes [] (added r k)
+command_by find s limit column (command.Excise names) k = excised column names k
+command_by find s limit column (command.Back count) k = back_given column count k
+command_by find s limit column (command.Matches names) k =
     lists column (flat_map (matches_told k.course.names s.rules k.course.wm) names) k
-command_by found s limit column command.Exit k = writes [] k
+command_by find s limit column command.Exit k = writes [] k
 
 -- nothing after it is done
 abbrev pub is_exit : Command → Bool
@@ -419,7 +447,7 @@ abbrev pub commands_by : Find → Setting → ℕ → ℕ → List Command → S
 commands_by find s limit column [] k = writes [] k
 commands_by find s limit column (c ∷ rest) k =
     if is_exit c then writes [] k
-    else and_then column (command_by (find k.rules) (in_force s k) limit column c k) (λ next k. commands_by find s limit next rest k)
+    else and_then column (command_by find (in_force s k) limit column c k) (λ next k. commands_by find s limit next rest k)
 
 -- ---- the session
 
@@ -459,13 +487,13 @@ abbrev pub firing : Setting → ℕ → Inst → Course → Effect Ending Turned
 firing s column i m = firing_by (conflict_set s.rules) s column i m
 
 abbrev pub run_on : ℕ → Setting → ℕ → Option LastFiring → Option ℕ → Session → Effect Ending Session
-run_on left s column last count k = run_by (conflict_set s.rules) left s column last count k
+run_on left s column last count k = run_by conflict_set left s column last count k
 
 abbrev pub phase_done : Setting → ℕ → List Change → ℕ → Session → Effect Ending Session
 phase_done s column changes last k = phase_told (conflict_set s.rules) s column changes last k
 
 abbrev pub command_done : Setting → ℕ → ℕ → Command → Session → Effect Ending Session
-command_done s limit column c k = command_by (conflict_set s.rules) s limit column c k
+command_done s limit column c k = command_by conflict_set s limit column c k
 
 abbrev pub commands_done : Setting → ℕ → ℕ → List Command → Session → Effect Ending Session
 commands_done s limit column commands k = commands_by conflict_set s limit column commands k

@@ -1,11 +1,11 @@
 -- Where a right side begins and ends among its words and its tokens.
-use Rattle.std.proofs.Common.{◌≡◌, ℕ, ◌+◌, ◌-◌, ◌≤◌, List, [], ◌∷◌, ◌++◌, length, take, drop, true, None, Some, Ok, refl, sym, ap, ◌∙◌, subst, append_assoc, arith}
+use Rattle.std.proofs.Common.{◌≡◌, ℕ, ◌+◌, ◌-◌, ◌≤◌, List, [], ◌∷◌, ◌++◌, length, take, drop, true, false, Option, is_some, None, Some, Ok, refl, sym, ap, ◌∙◌, subst, append_assoc, arith}
 use Rattle.ops_base.specs.declared.elements.Class.{Class}
 use Rattle.ops_base.specs.declared.actions.Action.{Action}
 use Rattle.ops_tokens.specs.declared.token.Token.{Token}
 use Rattle.ops_grammar.specs.declared.words.Word.{Word}
 use Rattle.ops_grammar.specs.Words.{names_from}
-use Rattle.ops_grammar.specs.Grammar.{State, Wanted, Actions, goes, step, is_right, right_begun, nothing_read, with_rule}
+use Rattle.ops_grammar.specs.Grammar.{Outer, State, Wanted, Actions, goes, values_around, step, is_right, right_begun, nothing_read, with_rule}
 use Rattle.ops_forms.specs.Forms.{past_last}
 use Rattle.ops_forms.specs.PlaceWalks.{IsBehind, IsPlaced, Onward, goes_onward, words_of_scope, fault_of}
 use Rattle.ops_forms.specs.declared.refusals.Refusal.{Refusal}
@@ -24,25 +24,25 @@ use Rattle.ops_rhs.proofs.Operands.{as_in}
 
 -- the state in which a right side begins
 abbrev begun_with : Sight → State
-begun_with sight = record (right_begun nothing_read) { values = sight.values; elements = sight.elements; variables = sight.variables }
+begun_with sight = record (right_begun nothing_read) { values = sight.values; elements = sight.elements; variables = sight.variables; counted = sight.counted; holes = sight.holes.items; templates = sight.templates.items }
 
 begun_is : (classes : List Class) (sight : Sight) (begun : Right) → view begun ≡ begun_with sight → (s : State) → Sees classes sight s → right_begun s ≡ seen s begun
 begun_is classes sight begun started s v =
-    let here : right_begun s ≡ as_in s (begun_with sight) = rw (v.constants_are, v.values_are, v.elements_are, v.variables_are) refl in
+    let here : right_begun s ≡ as_in s (begun_with sight) = rw (v.constants_are, v.values_are, v.elements_are, v.variables_are, v.counted_are, v.holes_are, v.templates_are) refl in
     here ∙ ap (as_in s) (sym started)
 
-closed : (more : List Word) (w : Word) (ws : List Wanted) (s : State) → is_right w.kind ≡ true → goes (w ∷ more) (Actions ∷ ws) s ≡ goes more ws (with_rule s w.past)
+closed : (more : List Word) (w : Word) (ws : List Wanted) (s : State) → is_right w.kind ≡ true → goes (w ∷ more) (Actions false ∷ ws) s ≡ goes more ws (with_rule s w.past)
 unfolding goes step
 closed more w ws s is = rw is refl
 
 module _ (classes : List Class) (sight : Sight) (words : List Word) (around : Around) (begun new : Right) (place : ℕ) where
-  pub right_side_is : (cells : List ℕ) → view begun ≡ begun_with sight → around.classes.now ≡ classes → around.cells.now ≡ sight.cells → around.conditions.now ≡ sight.conditions → ((n : ℕ) → place ≤ n → (on : Onward) (ws : List Wanted) (s : State) → IsAround around s → goes_onward on (take n words) (Actions ∷ ws) (seen s begun) ≡ goes_onward on (drop place (take n words)) (Actions ∷ ws) (seen s new)) → IsClosing words place → cells ≡ sight.cells ++ new.further.items → ReadsRight classes sight words (take (length words - (place + 1)) (drop (place + 1) words)) new.actions.items (record { values = new.values; elements = new.elements; cells = cells; conditions = sight.conditions; variables = new.variables })
-  right_side_is cells started declared filled placed reads closing grown =
+  pub right_side_is : (cells : List ℕ) → around.values.now ≡ [] → around.built ≡ false → view begun ≡ begun_with sight → around.classes.now ≡ classes → around.cells.now ≡ sight.cells → around.conditions.now ≡ sight.conditions → ((n : ℕ) → place ≤ n → (on : Onward) (ws : List Wanted) (s : State) → IsAround around s → goes_onward on (take n words) (Actions false ∷ ws) (seen s begun) ≡ goes_onward on (drop place (take n words)) (Actions false ∷ ws) (seen s new)) → IsClosing words place → cells ≡ sight.cells ++ new.further.items → ReadsRight classes sight words (take (length words - (place + 1)) (drop (place + 1) words)) new.actions.items (record { values = new.values; elements = new.elements; cells = cells; conditions = sight.conditions; variables = new.variables; counted = new.counted; holes = new.holes; templates = new.templates })
+  right_side_is cells none plain started declared filled placed reads closing grown =
       let behind : IsBehind IsBracket words (place + 1) = record { before = place; last = closing.bracket; there = closing.there; is = closing.is; within = closing.within } in
-      let up_to_bracket : (on : Onward) (ws : List Wanted) (s : State) → Sees classes sight s → goes_onward on (take place words) (Actions ∷ ws) (right_begun s) ≡ on (Actions ∷ ws) (seen s new) = λ on ws s v.
-      ap (goes_onward on (take place words) (Actions ∷ ws)) (begun_is classes sight begun started s v)
-      ∙ reads place (omega arith) on ws s (record { classes = v.classes_are ∙ sym declared; cells = v.cells_are ∙ sym filled; conditions = v.conditions_are ∙ sym placed })
-      ∙ taken_goes on place words (Actions ∷ ws) (seen s new) in
+      let up_to_bracket : (on : Onward) (ws : List Wanted) (s : State) → Sees classes sight s → goes_onward on (take place words) (Actions false ∷ ws) (right_begun s) ≡ on (Actions false ∷ ws) (seen s new) = λ on ws s v.
+      ap (goes_onward on (take place words) (Actions false ∷ ws)) (begun_is classes sight begun started s v)
+      ∙ reads place (omega arith) on ws s (record { classes = v.classes_are ∙ sym declared; values = ap values_around v.outer_is ∙ sym none; built = ap (λ (o : Option Outer). is_some o) v.outer_is ∙ sym plain; over = v.over; cells = v.cells_are ∙ sym filled; conditions = v.conditions_are ∙ sym placed })
+      ∙ taken_goes on place words (Actions false ∷ ws) (seen s new) in
       record {
         behind = behind_is IsBracket words (place + 1) behind;
         further = new.further.items;
@@ -50,8 +50,8 @@ module _ (classes : List Class) (sight : Sight) (words : List Word) (around : Ar
         cells = grown;
         conditions = refl;
         reads = λ s v more ws.
-            ap (λ (all : List Word). goes all (Actions ∷ ws) (right_begun s)) (append_assoc (take place words) (closing.bracket ∷ []) more)
-            ∙ goes_split (take place words) (closing.bracket ∷ more) (Actions ∷ ws) (right_begun s)
+            ap (λ (all : List Word). goes all (Actions false ∷ ws) (right_begun s)) (append_assoc (take place words) (closing.bracket ∷ []) more)
+            ∙ goes_split (take place words) (closing.bracket ∷ more) (Actions false ∷ ws) (right_begun s)
             ∙ up_to_bracket (goes (closing.bracket ∷ more)) ws s v
             ∙ closed more closing.bracket ws (seen s new) closing.is
             ∙ ap (λ xs. goes more ws (with_rule (record (seen s new) { constants = xs }) closing.bracket.past)) (sym v.constants_are);
@@ -61,8 +61,8 @@ module _ (classes : List Class) (sight : Sight) (words : List Word) (around : Ar
 pub right_goes : (classes : List Class) (old : Sight) (words rest : List Word) (actions : List Action) (new : Sight) (r : ReadsRight classes old words rest actions new) (s : State) → Sees classes old s → (more : List Word) (ws : List Wanted) → right_way words s more ws ≡ goes (rest ++ more) ws (with_rule (right_read s actions new r.further) r.behind.last.past)
 right_goes classes old words rest actions new r s v more ws =
     let read = r.behind.before ++ r.behind.last ∷ [] in
-    ap (λ (all : List Word). goes (all ++ more) (Actions ∷ ws) (right_begun s)) (r.behind.split ∙ sym (append_assoc r.behind.before (r.behind.last ∷ []) rest))
-    ∙ ap (λ (all : List Word). goes all (Actions ∷ ws) (right_begun s)) (append_assoc read rest more)
+    ap (λ (all : List Word). goes (all ++ more) (Actions false ∷ ws) (right_begun s)) (r.behind.split ∙ sym (append_assoc r.behind.before (r.behind.last ∷ []) rest))
+    ∙ ap (λ (all : List Word). goes all (Actions false ∷ ws) (right_begun s)) (append_assoc read rest more)
     ∙ r.reads s v (rest ++ more) ws
 
 -- ---- of tokens

@@ -1,5 +1,5 @@
 -- How the walk over the words of a right side follows the definition's walk, by places in the words.
-use Rattle.std.specs.Prelude.{◌≡◌, ℕ, ◌+◌, ◌-◌, ◌<◌, ◌≤◌, ◌==◌, true, if◌then◌else◌, Option, Some, None, List, [], ◌∷◌, ◌++◌, take, drop, length, slice_get, unwrap_or, Result, Ok, Err}
+use Rattle.std.specs.Prelude.{◌≡◌, ℕ, ◌+◌, ◌-◌, ◌<◌, ◌≤◌, ◌==◌, Bool, true, false, if◌then◌else◌, Option, Some, None, List, [], ◌∷◌, ◌++◌, take, drop, length, slice_get, unwrap_or, Result, Ok, Err}
 use Rattle.ops_base.specs.declared.elements.Class.{Class}
 use Rattle.ops_base.specs.declared.actions.Term.{Term}
 use Rattle.ops_base.specs.declared.actions.Term.TheVariants as term
@@ -7,9 +7,14 @@ use Rattle.ops_base.specs.declared.actions.Item.TheVariants as item
 use Rattle.ops_base.specs.declared.endings.Fault.{Fault}
 use Rattle.ops_base.specs.declared.endings.Fault.TheVariants as fault
 use Rattle.ops_base.specs.Expression.{Formula}
-use Rattle.ops_base.specs.Valid.{class_of, cells_of}
+use Rattle.ops_base.specs.declared.conditions.Part.{Part}
+use Rattle.ops_base.specs.declared.rules.Rule.{Rule}
+use Rattle.ops_base.specs.declared.values.Sym.{Sym}
+use Rattle.ops_base.specs.Valid.{class_of, cells_of, specificity}
+use Rattle.ops_grammar.specs.declared.words.Keyword.{Keyword}
+use Rattle.ops_grammar.specs.declared.words.Keyword.TheVariants as keyword
 use Rattle.ops_grammar.specs.declared.words.Word.{Word}
-use Rattle.ops_grammar.specs.Grammar.{Target as Goal, ToPut, ToTerms, ToItem, ToBind, Column as Purpose, ToTab, ToRight, Wanted, State, Step, Waiting as Waits, Bracketed, ExpressionUnit, ExpressionRest, Next, Refuses, after, goes, nothing_read, no_formula, is_right, number_of, with_put, with_item, with_bind, with_formula}
+use Rattle.ops_grammar.specs.Grammar.{Target as Goal, ToPut, ToTerms, ToItem, ToBind, Column as Purpose, ToTab, ToRight, Wanted, State, Step, Waiting as Waits, Bracketed, ExpressionUnit, ExpressionRest, Next, Refuses, after, goes, nothing_read, no_formula, is_right, is_built, number_of, values_around, constant_by, with_put, with_item, with_bind, with_formula}
 use Rattle.ops_forms.specs.Sights.{cells_from}
 use Rattle.ops_forms.specs.PlaceWalks.{Way, Fails, IsPlaced, GoesOn, GoesAmong, GoesToAmong, CutGoesOn, CutGoesAmong, CutGoesToAmong, PeekGoesToAmong, Onward, CutWay, goes_onward}
 use Rattle.ops_forms.specs.declared.refusals.Refusal.{Refusal}
@@ -43,15 +48,27 @@ seen s r =
       source = r.source;
       source_field = r.source_field;
       formula = no_formula;
+      begun = r.begun;
+      counted = r.counted;
+      holes = r.holes.items;
+      templates = r.templates.items;
     }
 
 -- what was read so far, if nothing else was read
 abbrev pub view : Right → State
 view r = seen nothing_read r
 
--- the classes and the conditions of a state are those around a right side
+-- nothing of a left side is being read
+abbrev pub left_over : State → State
+left_over s =
+    record s { tests = []; choice = []; element = record { 0 = 0 }; negated = false; around = 0; grouped = false; members = [] }
+
+-- the classes and the conditions of a state, and the production around what it reads, are those around a right side
 pub record IsAround (a : Around) (s : State) : Type 0 where
   pub classes : s.classes ≡ a.classes.now
+  pub values : values_around s.outer ≡ a.values.now
+  pub built : is_built s ≡ a.built
+  pub over : s ≡ left_over s
   pub cells : cells_of s.conditions ≡ a.cells.now
   pub conditions : cells_from 0 s.conditions ≡ a.conditions.now
 
@@ -212,6 +229,59 @@ cell_by before None = Err fault.BadDesignator
 abbrev pub numbered_by : Option ℕ → List (Option ℕ) → Result ℕ Fault
 numbered_by (Some n) conditions = cell_by (n - 1) (slice_get conditions (n - 1))
 numbered_by None conditions = Err fault.BadDesignator
+
+-- ---- productions that are built
+
+-- these classes are declared, and a right side is being read of a production that none builds
+pub record MayBuild (classes : List Class) (s : State) : Type 0 where
+  pub classes_are : s.classes ≡ classes
+  pub outer_is : s.outer ≡ None
+  pub over : s ≡ left_over s
+
+-- the production of this name, these conditions, this right side and this many cells that stands between these bytes
+abbrev pub built_rule : Sym → List Part → Right → ℕ → ℕ → ℕ → Rule
+built_rule name conditions r cells first past =
+    record {
+      name = name;
+      conditions = conditions;
+      actions = r.actions.items;
+      specificity = specificity conditions;
+      variables = r.variables;
+      cells = cells;
+      first = first;
+      past = past;
+    }
+
+-- nothing of an action is kept, nor of what it builds
+abbrev pub forgotten : State → State
+forgotten s =
+    record s {
+      class = 0;
+      terms = [];
+      puts = [];
+      cells = [];
+      items = [];
+      begun = 0;
+      modified = None;
+      variable = record { 0 = 0 };
+      source = 0;
+      source_field = 0;
+      counted = 0;
+      holes = [];
+    }
+
+-- the word `build`
+abbrev pub is_build : Keyword → Bool
+is_build keyword.Build = true
+is_build _ = false
+
+-- The call did with the constant that the word is what the definition does, up to what is done with any constant; or
+-- its variable is not in sight around.
+abbrev pub BeginsConstant : {X : Type 0} → Around → Word → Right → Right → Result X Refusal → Type 0
+BeginsConstant a w old new (Ok x) = (next : State → Step) (s : State) → IsAround a s → constant_by w.keyword next (seen s old) ≡ next (seen s new)
+BeginsConstant a w old new (Err refusal.OutOfMemory) = Unit {0}
+BeginsConstant a w old new (Err (refusal.At f None)) = ⊥
+BeginsConstant a w old new (Err (refusal.At f (Some v))) = (v ≡ w) × ((next : State → Step) (s : State) → IsAround a s → constant_by w.keyword next (seen s old) ≡ Refuses f)
 
 -- there is a closing bracket at a place in the words
 pub record IsClosing (words : List Word) (place : ℕ) : Type 0 where

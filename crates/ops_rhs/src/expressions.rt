@@ -1,6 +1,6 @@
 //! The expressions of `compute`.
 ghost use Rattle.std.specs.Prelude.{◌≡◌, IfOk};
-ghost use Rattle.ops_grammar.specs.Grammar.{completed, bracket_at, unit_at, unit_bound, number_of, ExpressionUnit};
+ghost use Rattle.ops_grammar.specs.Grammar.{completed, bracket_at, unit_at, unit_bound, number_of, function_depth, ExpressionUnit};
 ghost use Rattle.ops_forms.specs.PlaceWalks.{IsFrom};
 ghost use Rattle.ops_rhs.specs.Taking.{newest_first, ReadsOperand, ActsOperand, ReadsExpression, OpensExpression, IsOperand, IsFromOperand, CutActsOperand, PeekOpensExpression, CutReadsExpression, CutReadsOperand};
 
@@ -18,8 +18,13 @@ use ops_tokens::TokenKind;
 // how many brackets may be open at once
 const MOST_BRACKETS: usize = 32;
 
-// how many are open inside a function: that of the production, that of the action and its own
-pub const FUNCTION_DEPTH: usize = 3;
+// how many are open inside a function: that of the production, that of the action and its own, and in a production that
+// is built also that of the one around
+pub fn function_depth(built: bool) -> usize
+    ensures { result ≡ function_depth built }
+{
+    if built { 4 } else { 3 }
+}
 
 // an operand and the operation after it, waiting for the operand that follows
 #[derive(Drop)]

@@ -4,7 +4,7 @@ ghost use Rattle.ops_grammar.specs.Grammar.{goes, function, function_depth, Func
 ghost use Rattle.ops_forms.specs.PlaceWalks.{GoesOn, IsFrom, CutGoesOn, goes_onward};
 ghost use Rattle.ops_rhs.specs.Taking.{seen, target_of, with_term, Reads, Acts, CutActs, CutReads};
 
-use crate::expressions::FUNCTION_DEPTH;
+use crate::expressions::function_depth;
 use crate::right::{Around, Right, Target};
 use ops_base::actions::Term;
 use ops_base::endings::Fault;
@@ -46,7 +46,7 @@ impl Right {
     {
         match word.keyword {
             Keyword::Substr => self.substr(around, target, words, at),
-            Keyword::Compute => self.compute(target, words, at),
+            Keyword::Compute => self.compute(around.built, target, words, at),
             Keyword::Genatom => self.term(target, Term::Fresh, words, at),
             Keyword::Accept => self.term(target, Term::Accept, words, at),
             _ => refused(Fault::BadForm, word),
@@ -54,12 +54,18 @@ impl Right {
     }
 
     // expr )
-    fn compute(&mut self, target: Target, words: &[Word], at: usize) -> Result<usize, Refusal>
-        ensures reads { GoesOn (λ more ws s. goes (drop at words.now ++ more) (ExpressionUnit function_depth ∷ ExpressionRest function_depth [] (Some (target_of target)) ∷ ws) (seen s self.old)) words.now (λ s. seen s self.new) result }
-        ensures cut { CutGoesOn (λ cut on ws s. goes_onward on (drop at cut) (ExpressionUnit function_depth ∷ ExpressionRest function_depth [] (Some (target_of target)) ∷ ws) (seen s self.old)) words.now (λ s. seen s self.new) result }
+    fn compute(
+        &mut self,
+        built: bool,
+        target: Target,
+        words: &[Word],
+        at: usize,
+    ) -> Result<usize, Refusal>
+        ensures reads { GoesOn (λ more ws s. goes (drop at words.now ++ more) (ExpressionUnit (function_depth built) ∷ ExpressionRest (function_depth built) [] (Some (target_of target)) ∷ ws) (seen s self.old)) words.now (λ s. seen s self.new) result }
+        ensures cut { CutGoesOn (λ cut on ws s. goes_onward on (drop at cut) (ExpressionUnit (function_depth built) ∷ ExpressionRest (function_depth built) [] (Some (target_of target)) ∷ ws) (seen s self.old)) words.now (λ s. seen s self.new) result }
         ensures within { IsFrom at result }
     {
-        let (formula, rest) = self.expression(FUNCTION_DEPTH, words, at)?;
+        let (formula, rest) = self.expression(function_depth(built), words, at)?;
         self.add(target, Term::Compute(formula))?;
         Ok(rest)
     }

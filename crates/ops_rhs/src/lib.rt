@@ -6,10 +6,12 @@
 
 mod actions;
 mod bindings;
+mod build;
 mod cells;
 mod designators;
 mod expressions;
 mod functions;
+mod holes;
 mod items;
 mod puts;
 mod reading;

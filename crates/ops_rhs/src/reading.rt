@@ -34,10 +34,18 @@ pub fn right_side<'a>(
         cells,
         conditions,
         variables,
+        counted,
+        holes,
+        templates,
     } = sight;
-    let mut right = Right::new(alloc, values, elements, variables);
+    let mut right = Right::new(
+        alloc, values, elements, variables, counted, holes, templates,
+    );
+    let none = Declared::new(alloc);
     let around = Around {
         classes,
+        values: &none,
+        built: false,
         cells: cells.as_slice(),
         conditions: conditions.as_slice(),
     };
@@ -48,6 +56,9 @@ pub fn right_side<'a>(
         cells: with_further(cells, &right.further)?,
         conditions,
         variables: right.variables,
+        counted: right.counted,
+        holes: right.holes,
+        templates: right.templates,
     };
     let side = RightSide {
         actions: right.actions,
@@ -102,7 +113,9 @@ pub fn read_rhs(
 // Moves what is in sight out of a scope.
 fn take_sight(alloc: Global, scope: &mut Scope) -> Sight
     ensures sight { result ≡ sight_of scope.old }
-    ensures scope { scope.new ≡ record scope.old { values = []; elements = []; cells = []; conditions = [] } }
+    ensures scope { scope.new ≡ record scope.old { values = []; elements = []; cells = []; conditions = []; holes = scope.new.holes; templates = scope.new.templates } }
+    ensures holes { scope.new.holes.items ≡ [] }
+    ensures templates { scope.new.templates.items ≡ [] }
 {
     Sight {
         values: mem::replace(&mut scope.values, Declared::new(alloc)),
@@ -110,16 +123,22 @@ fn take_sight(alloc: Global, scope: &mut Scope) -> Sight
         cells: mem::replace(&mut scope.cells, Listed::new(alloc)),
         conditions: mem::replace(&mut scope.conditions, Listed::new(alloc)),
         variables: scope.variables,
+        counted: scope.counted,
+        holes: mem::replace(&mut scope.holes, Vec::new(alloc)),
+        templates: mem::replace(&mut scope.templates, Vec::new(alloc)),
     }
 }
 
 // Puts what is in sight into a scope.
 fn put_sight(scope: &mut Scope, sight: Sight)
-    ensures { scope.new ≡ record scope.old { values = sight.values; elements = sight.elements; cells = sight.cells; conditions = sight.conditions; variables = sight.variables } }
+    ensures { scope.new ≡ record scope.old { values = sight.values; elements = sight.elements; cells = sight.cells; conditions = sight.conditions; variables = sight.variables; counted = sight.counted; holes = sight.holes; templates = sight.templates } }
 {
     scope.values = sight.values;
     scope.elements = sight.elements;
     scope.cells = sight.cells;
     scope.conditions = sight.conditions;
     scope.variables = sight.variables;
+    scope.counted = sight.counted;
+    scope.holes = sight.holes;
+    scope.templates = sight.templates;
 }

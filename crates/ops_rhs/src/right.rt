@@ -1,21 +1,25 @@
 //! What was read of a right side so far, and how it grows.
 ghost use Rattle.std.specs.Prelude.{◌≡◌, None};
-ghost use Rattle.ops_grammar.specs.Grammar.{nothing_read, right_begun, number_of, with_action, with_item, with_put, with_bind, with_several, with_element, with_remove, with_write, put_action, InPut};
+ghost use Rattle.ops_grammar.specs.Grammar.{nothing_read, right_begun, number_of, with_action, with_item, with_put, with_bind, with_constant, with_several, with_element, with_remove, with_write, put_action, InPut};
 ghost use Rattle.ops_forms.specs.WordWalks.{Becomes};
-ghost use Rattle.ops_rhs.specs.Taking.{view, with_term};
+ghost use Rattle.ops_rhs.specs.Taking.{view, target_of, with_term};
 
-use ops_base::actions::{Action, Item, Put, Term};
+use ops_base::actions::{Action, Hole, Item, Put, Term};
 use ops_base::list::Listed;
-use ops_base::values::{NIL, Sym};
+use ops_base::rules::Rule;
+use ops_base::values::{NIL, Sym, Value};
 use ops_forms::{Classes, Declared, Named, Refusal, number_of};
 use std::alloc::Global;
 use std::mem;
 
-/// The surroundings of a right side: the declared classes, the class of the cell of each positive condition, and the
+/// The surroundings of a right side: the declared classes, the variables in sight of the production that builds this
+/// one, which are none if none builds it, whether one does, the class of the cell of each positive condition, and the
 /// cell of each part of the left side, `None` for a negated condition or a group.
 #[derive(Clone, Copy)]
 pub struct Around<'a> {
     pub classes: &'a Classes,
+    pub values: &'a Declared<Named>,
+    pub built: bool,
     pub cells: &'a [usize],
     pub conditions: &'a [Option<usize>],
 }
@@ -57,6 +61,8 @@ pub struct Right {
     /// How many variables were given a number.
     pub variables: usize,
     pub actions: Vec<Action>,
+    /// The first byte of the action that is being read.
+    pub begun: usize,
     /// The cell that a `modify` names; `None` in a `make`.
     pub modified: Option<usize>,
     /// The class of the element that was made last.
@@ -69,6 +75,12 @@ pub struct Right {
     pub source: usize,
     /// The field of a `substr`.
     pub source_field: usize,
+    /// How many constants of the production were read.
+    pub counted: usize,
+    /// Those of them that are holes.
+    pub holes: Vec<Hole>,
+    /// The productions that actions build.
+    pub templates: Vec<Rule>,
     pub alloc: Global,
 }
 
@@ -78,8 +90,11 @@ impl Right {
         values: Declared<Named>,
         elements: Declared<Named>,
         variables: usize,
+        counted: usize,
+        holes: Vec<Hole>,
+        templates: Vec<Rule>,
     ) -> Right
-        ensures { view result ≡ record (right_begun nothing_read) { values = values; elements = elements; variables = variables } }
+        ensures { view result ≡ record (right_begun nothing_read) { values = values; elements = elements; variables = variables; counted = counted; holes = holes.items; templates = templates.items } }
     {
         Right {
             class: 0,
@@ -91,12 +106,16 @@ impl Right {
             elements,
             variables,
             actions: Vec::new(alloc),
+            begun: 0,
             modified: None,
             made: None,
             further: Vec::new(alloc),
             variable: NIL,
             source: 0,
             source_field: 0,
+            counted,
+            holes,
+            templates,
             alloc,
         }
     }
@@ -117,6 +136,14 @@ impl Right {
 }
 
 impl Right {
+    // a constant is put where it belongs
+    pub fn add_constant(&mut self, target: Target, value: Value) -> Result<(), Refusal>
+        ensures { Becomes (view self.new) (with_constant (target_of target) (view self.old) value) result }
+    {
+        self.counted = self.counted.checked_add(1).ok_or(Refusal::OutOfMemory)?;
+        self.add(target, Term::Constant(value))
+    }
+
     // puts a value where it belongs
     pub fn add(&mut self, target: Target, term: Term) -> Result<(), Refusal>
         ensures { Becomes (view self.new) (with_term target (view self.old) term) result }

@@ -1,7 +1,8 @@
 //! What is needed to read a right side, and the result of reading it.
 
-use ops_base::actions::Action;
+use ops_base::actions::{Action, Hole};
 use ops_base::list::Listed;
+use ops_base::rules::Rule;
 use ops_forms::{Declared, Named};
 
 /// What is in sight at a right side.
@@ -17,6 +18,12 @@ pub struct Sight {
     pub conditions: Listed<Option<usize>>,
     /// How many variables were given a number.
     pub variables: usize,
+    /// How many constants were read.
+    pub counted: usize,
+    /// Those of them that are holes.
+    pub holes: Vec<Hole>,
+    /// The productions that actions build.
+    pub templates: Vec<Rule>,
 }
 
 /// The actions of a production, and what is in sight after them.

@@ -1,7 +1,7 @@
 //! Values: constants, variables and functions.
 ghost use Rattle.ops_grammar.specs.Grammar.{goes, value_for, bound_at, number_of, Atom, ValueFor};
 ghost use Rattle.ops_forms.specs.PlaceWalks.{IsFrom};
-ghost use Rattle.ops_rhs.specs.Taking.{target_of, Reads, Acts, ReadsAnywhere, ActsAnywhere, CutActs, CutActsAnywhere, CutReads, CutReadsAnywhere};
+ghost use Rattle.ops_rhs.specs.Taking.{target_of, Reads, Acts, ActsAnywhere, CutActs, CutActsAnywhere, CutReads};
 
 use crate::right::{Around, Right, Target};
 use ops_base::actions::Term;
@@ -44,13 +44,14 @@ impl Right {
         ensures within { IsFrom at result }
     {
         if is_literal(word.keyword) {
-            return self.atom(target, words, at);
+            return self.atom(around, target, words, at);
         }
         if is_left(word.kind) {
             return self.function(around, target, words, at);
         }
         if let Some(constant) = value_of(word.kind, word.name) {
-            self.add(target, Term::Constant(constant))?;
+            self.begin_constant(around, word)?;
+            self.add_constant(target, constant)?;
             return Ok(at);
         }
         if !is_variable(word.kind) {
@@ -61,16 +62,23 @@ impl Right {
 
     // atom
     #[tactic(auto, unfolding(ops_grammar::specs::Grammar::goes, ops_grammar::specs::Grammar::step, ops_grammar::specs::Grammar::ends, ops_forms::specs::PlaceWalks::goes_onward))]
-    fn atom(&mut self, target: Target, words: &[Word], at: usize) -> Result<usize, Refusal>
-        ensures reads { ReadsAnywhere (Atom (target_of target)) self.old self.new words.now at result }
-        ensures cut { CutReadsAnywhere (Atom (target_of target)) self.old self.new words.now at result }
+    fn atom(
+        &mut self,
+        around: &Around,
+        target: Target,
+        words: &[Word],
+        at: usize,
+    ) -> Result<usize, Refusal>
+        ensures reads { Reads around.now (Atom (target_of target)) self.old self.new words.now at result }
+        ensures cut { CutReads around.now (Atom (target_of target)) self.old self.new words.now at result }
         ensures within { IsFrom at result }
     {
         let (word, rest) = first_of(words, at)?;
         let Some(value) = atom_of(word.kind, word.name) else {
             return refused(Fault::BadForm, word);
         };
-        self.add(target, Term::Constant(value))?;
+        self.begin_constant(around, word)?;
+        self.add_constant(target, value)?;
         Ok(rest)
     }
 

@@ -133,7 +133,7 @@ module _ (job : Job) (r : Result Status Stop) (told : List ℕ → Option (Optio
 
   pub program_run : (before now : Devices) (text : List ℕ) (p : Read) (reply : Coming → Reply) → Gathers (λ g. g ≡ Joined text) → reads text ≡ Ok p
       → ((z : Coming) → answer_program_by conflict_set job z text p ≡ reply z) → (is_run job ≡ false → Untouched) → new.faults ≡ old.faults → AskedFor true (files_in job) old.names new.names
-      → IsAnswered r reply (session_asks p.rules p.commands) Untouched before now → IsRun (Some job) r told Untouched old new before now
+      → IsAnswered r reply (session_asks p.rules p.templates p.commands) Untouched before now → IsRun (Some job) r told Untouched old new before now
   program_run before now text p reply gathers is replies untouched same names answered =
       let I : (Coming → Type 0) → Type 0 = OfInput before.left now.left (nat_lt before.reads now.reads) in
       let D : Reply → Type 0 = λ o. Delivers r o before.taken before.writes now.taken now.writes in

@@ -5,10 +5,10 @@ use Rattle.ops_grammar.specs.Reads.{Read, Placed, reads}
 use Rattle.ops_jobs.specs.CommandLine.{job_of}
 use Rattle.ops_top.specs.Whole.{Gathered, Joined, gathered_for, readable}
 
--- The text is a program, and `accept` stands in it: in a production that stands before the commands, or in one that a
--- command adds.
+-- The text is a program, and `accept` stands in it: in a production that stands before the commands, in one that a
+-- command adds, or in one that an action builds.
 abbrev pub text_asks : Result Read Placed → Bool
-text_asks (Ok p) = session_asks p.rules p.commands
+text_asks (Ok p) = session_asks p.rules p.templates p.commands
 text_asks (Err p) = false
 
 -- so is what the text of a job comes to

@@ -124,7 +124,7 @@ told summed names e =
 
 -- what a session stands in at its start, where the text is read as this
 abbrev pub setting_read : List ℕ → Read → Setting
-setting_read text p = record { classes = p.classes; rules = p.rules; text = text; watch = 0 }
+setting_read text p = record { classes = p.classes; rules = p.rules; templates = p.templates; text = text; watch = 0 }
 
 -- how large the network of these rules is
 abbrev pub net_told : List Rule → Reply

@@ -84,7 +84,7 @@ fn answer_live<
         (λ coming. told plan.is_summed names.old
         (explained_if plan.is_explained live.old.program.classes
         (session_of (setting_of live.old.program 0) plan.options.limit live.old.program.commands names.old coming)))
-        (session_asks live.old.program.rules live.old.program.commands) (source.new ≡ source.old)
+        (session_asks live.old.program.rules live.old.program.templates live.old.program.commands) (source.new ≡ source.old)
         (devices (I.left source.old) (I.faults source.old) (K.taken sink.old) (K.faults sink.old))
         (devices (I.left source.new) (I.faults source.new) (K.taken sink.new) (K.faults sink.new)) }
 {
@@ -133,7 +133,7 @@ pub(crate) fn answer_over<
         (λ coming. told plan.is_summed names.old
         (explained_if plan.is_explained program.classes
         (session_of (setting_of program 0) plan.options.limit program.commands names.old coming)))
-        (session_asks program.rules program.commands) (source.new ≡ source.old)
+        (session_asks program.rules program.templates program.commands) (source.new ≡ source.old)
         (devices (I.left source.old) (I.faults source.old) (K.taken sink.old) (K.faults sink.old))
         (devices (I.left source.new) (I.faults source.new) (K.taken sink.new) (K.faults sink.new)) }
 {

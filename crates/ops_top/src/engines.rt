@@ -73,7 +73,7 @@ fn answer_by<
         (λ coming. told plan.is_summed names.old
         (explained_if plan.is_explained program.classes
         (session_of (setting_of program 0) plan.options.limit program.commands names.old coming)))
-        (session_asks program.rules program.commands) (source.new ≡ source.old)
+        (session_asks program.rules program.templates program.commands) (source.new ≡ source.old)
         (devices (I.left source.old) (I.faults source.old) (K.taken sink.old) (K.faults sink.old))
         (devices (I.left source.new) (I.faults source.new) (K.taken sink.new) (K.faults sink.new)) }
 {
@@ -113,7 +113,7 @@ fn answer_alone<
         (λ coming. told plan.is_summed names.old
         (explained_if plan.is_explained program.classes
         (session_of (setting_of program 0) plan.options.limit program.commands names.old coming)))
-        (session_asks program.rules program.commands) (source.new ≡ source.old)
+        (session_asks program.rules program.templates program.commands) (source.new ≡ source.old)
         (devices (I.left source.old) (I.faults source.old) (K.taken sink.old) (K.faults sink.old))
         (devices (I.left source.new) (I.faults source.new) (K.taken sink.new) (K.faults sink.new)) }
 {
@@ -147,7 +147,7 @@ fn answer_in_rounds<R: Threads + Sync, I: Source, K: Sink, G: Gate + Copy + Send
         (λ coming. told plan.is_summed names.old
         (explained_if plan.is_explained program.classes
         (session_of (setting_of program 0) plan.options.limit program.commands names.old coming)))
-        (session_asks program.rules program.commands) (source.new ≡ source.old)
+        (session_asks program.rules program.templates program.commands) (source.new ≡ source.old)
         (devices (I.left source.old) (I.faults source.old) (K.taken sink.old) (K.faults sink.old))
         (devices (I.left source.new) (I.faults source.new) (K.taken sink.new) (K.faults sink.new)) }
 {
@@ -189,7 +189,7 @@ fn answer_freely<R: Threads + Wait + Sync, I: Source, K: Sink, G: Gate + Copy + 
         (λ coming. told plan.is_summed names.old
         (explained_if plan.is_explained program.classes
         (session_of (setting_of program 0) plan.options.limit program.commands names.old coming)))
-        (session_asks program.rules program.commands) (source.new ≡ source.old)
+        (session_asks program.rules program.templates program.commands) (source.new ≡ source.old)
         (devices (I.left source.old) (I.faults source.old) (K.taken sink.old) (K.faults sink.old))
         (devices (I.left source.new) (I.faults source.new) (K.taken sink.new) (K.faults sink.new)) }
 {
@@ -231,7 +231,7 @@ fn answer_by_stealing<R: Threads + Wait + Sync, I: Source, K: Sink, G: Gate + Co
         (λ coming. told plan.is_summed names.old
         (explained_if plan.is_explained program.classes
         (session_of (setting_of program 0) plan.options.limit program.commands names.old coming)))
-        (session_asks program.rules program.commands) (source.new ≡ source.old)
+        (session_asks program.rules program.templates program.commands) (source.new ≡ source.old)
         (devices (I.left source.old) (I.faults source.old) (K.taken sink.old) (K.faults sink.old))
         (devices (I.left source.new) (I.faults source.new) (K.taken sink.new) (K.faults sink.new)) }
 {
@@ -275,7 +275,7 @@ pub(crate) fn answer_still<R: Threads + Sync, I: Source, K: Sink, G: Gate + Copy
         (λ coming. told plan.is_summed names.old
         (explained_if plan.is_explained program.classes
         (session_of (setting_of program 0) plan.options.limit program.commands names.old coming)))
-        (session_asks program.rules program.commands) (source.new ≡ source.old)
+        (session_asks program.rules program.templates program.commands) (source.new ≡ source.old)
         (devices (I.left source.old) (I.faults source.old) (K.taken sink.old) (K.faults sink.old))
         (devices (I.left source.new) (I.faults source.new) (K.taken sink.new) (K.faults sink.new)) }
 {
@@ -313,7 +313,7 @@ pub(crate) fn answer_program<R: Threads + Wait + Sync, I: Source, K: Sink, G: Ga
         (λ coming. told plan.is_summed names.old
         (explained_if plan.is_explained program.classes
         (session_of (setting_of program 0) plan.options.limit program.commands names.old coming)))
-        (session_asks program.rules program.commands) (source.new ≡ source.old)
+        (session_asks program.rules program.templates program.commands) (source.new ≡ source.old)
         (devices (I.left source.old) (I.faults source.old) (K.taken sink.old) (K.faults sink.old))
         (devices (I.left source.new) (I.faults source.new) (K.taken sink.new) (K.faults sink.new)) }
 {

@@ -103,7 +103,7 @@ fn program_of_job<'n, H: Shelf>(
     ensures text { IfOk result (λ r. OfContents (H.told shelf.old) (files_in job.now) (λ contents.
         gathered_for job.now (readable contents
         (broken_load (H.names shelf.old) (H.names shelf.new) (H.faults shelf.old) (H.faults shelf.new))) ≡ Joined r.0.text)) }
-    ensures read { IfOk result (λ r. reads r.0.text ≡ Ok (record { classes = r.0.classes; rules = r.0.rules; commands = r.0.commands; names = r.1 })) }
+    ensures read { IfOk result (λ r. reads r.0.text ≡ Ok (record { classes = r.0.classes; rules = r.0.rules; templates = r.0.templates; commands = r.0.commands; names = r.1 })) }
     ensures held { IfOk result (λ r. IsTrue (is_held (length r.1.held) r.0.classes r.0.rules r.0.templates r.0.commands)) }
     ensures fault { IfErr result (λ why. OfContents (H.told shelf.old) (files_in job.now) (λ contents. (coming : Coming) → IsReplyTo why
         (answer_gathered job.now coming (gathered_for job.now (readable contents

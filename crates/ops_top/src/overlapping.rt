@@ -102,7 +102,7 @@ fn answer_acted<
         (λ coming. told plan.is_summed names.old
         (explained_if plan.is_explained program.classes
         (session_of (setting_of program 0) plan.options.limit program.commands names.old coming)))
-        (session_asks program.rules program.commands) (source.new ≡ source.old)
+        (session_asks program.rules program.templates program.commands) (source.new ≡ source.old)
         (devices (I.left source.old) (I.faults source.old) (K.taken sink.old) (K.faults sink.old))
         (devices (I.left source.new) (I.faults source.new) (K.taken sink.new) (K.faults sink.new)) }
 {
@@ -144,7 +144,7 @@ where
         (λ coming. told plan.is_summed names.old
         (explained_if plan.is_explained program.classes
         (session_of (setting_of program 0) plan.options.limit program.commands names.old coming)))
-        (session_asks program.rules program.commands) (source.new ≡ source.old)
+        (session_asks program.rules program.templates program.commands) (source.new ≡ source.old)
         (devices (I.left source.old) (I.faults source.old) (K.taken sink.old) (K.faults sink.old))
         (devices (I.left source.new) (I.faults source.new) (K.taken sink.new) (K.faults sink.new)) }
 {

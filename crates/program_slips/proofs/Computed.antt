@@ -7,4 +7,4 @@ use Rattle.program_slips.specs.SmallTexts.{LoneAreFound}
 
 pub lone_are_found : LoneAreFound
 unfolding token_at is_operator is_whole is_fraction is_variable decimal
-lone_are_found = (refl, refl, refl, refl, refl, refl, refl)
+lone_are_found = (refl, refl, refl, refl, refl, refl, refl, refl, refl, refl)

@@ -19,8 +19,9 @@ one_step known next found new a rest adds knows =
     ∙ ap (λ k. new ++ lacking_by k rest) (λ i g. sym (knows g) i)
 
 -- what is missing at the start is what a program lacks
-pub begins : (classes : List Class) (rules : List Rule) (commands : List Command) (known : Given → Bool) (given : List Given) (asks found : List Ask)
-    → ((g : Given) → known g ≡ is_given given g) → given ≡ given_of rules commands → asks ≡ asks_of classes rules commands → found ≡ lacking_by known asks
-    → found ≡ lacking classes rules commands
-begins classes rules commands known given asks found knows is are finds =
-    finds ∙ ap (λ k. lacking_by k asks) (λ i g. knows g i) ∙ ap (λ gs. lacking_by (is_given gs) asks) is ∙ ap (λ xs. lacking_by (is_given (given_of rules commands)) xs) are
+pub begins : (classes : List Class) (rules templates : List Rule) (commands : List Command) (known : Given → Bool) (given : List Given) (asks found : List Ask)
+    → ((g : Given) → known g ≡ is_given given g) → given ≡ given_of rules templates commands → asks ≡ asks_of classes rules templates commands
+    → found ≡ lacking_by known asks → found ≡ lacking classes rules templates commands
+begins classes rules templates commands known given asks found knows is are finds =
+    finds ∙ ap (λ k. lacking_by k asks) (λ i g. knows g i) ∙ ap (λ gs. lacking_by (is_given gs) asks) is
+    ∙ ap (λ xs. lacking_by (is_given (given_of rules templates commands)) xs) are

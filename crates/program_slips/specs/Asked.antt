@@ -1,5 +1,5 @@
 -- What the conditions of a program ask for, one after another in text order.
-use Rattle.std.specs.Prelude.{ℕ, ◌+◌, List, [], ◌∷◌, ◌++◌, map, flat_map, nat_lt, if◌then◌else◌}
+use Rattle.std.specs.Prelude.{ℕ, ◌+◌, List, [], ◌∷◌, ◌++◌, map, flat_map, nat_lt, slice_get, if◌then◌else◌, Option, Some, None}
 use Rattle.ops_base.specs.declared.values.Value.{Value}
 use Rattle.ops_base.specs.declared.values.Pred.{Pred}
 use Rattle.ops_base.specs.declared.values.Pred.TheVariants.{Eq}
@@ -9,6 +9,8 @@ use Rattle.ops_base.specs.declared.conditions.Operand.TheVariants.{Constant, One
 use Rattle.ops_base.specs.declared.conditions.Test.{Test}
 use Rattle.ops_base.specs.declared.conditions.Condition.{Condition}
 use Rattle.ops_base.specs.declared.conditions.Part.{Part}
+use Rattle.ops_base.specs.declared.actions.Action.{Action}
+use Rattle.ops_base.specs.declared.actions.Action.TheVariants as action
 use Rattle.ops_base.specs.declared.rules.Rule.{Rule}
 use Rattle.ops_base.specs.declared.commands.Command.{Command}
 use Rattle.ops_base.specs.declared.commands.Command.TheVariants as command
@@ -46,12 +48,33 @@ asks_of_parts classes at before [] = []
 asks_of_parts classes at before (p ∷ ps) =
     flat_map (asks_of_condition classes at (before + 1)) (elements_in p) ++ asks_of_parts classes at (before + 1) ps
 
-abbrev pub asks_of_rule : List Class → Rule → List Ask
-asks_of_rule classes r = asks_of_parts classes r.first 0 r.conditions
+-- ---- productions that are built
 
-abbrev pub asks_of_command : List Class → Command → List Ask
-asks_of_command classes (command.Add r) = asks_of_rule classes r
-asks_of_command classes _ = []
+-- Such a production asks for elements of its classes. A constant of it may be a hole, so its tests ask for nothing here.
+abbrev pub asks_of_class : ℕ → ℕ → Condition → Ask
+asks_of_class at number c = ask_at at number c.class what.Element
 
-abbrev pub asks_of : List Class → List Rule → List Command → List Ask
-asks_of classes rules commands = flat_map (asks_of_rule classes) rules ++ flat_map (asks_of_command classes) commands
+abbrev pub asks_of_classes : ℕ → ℕ → List Part → List Ask
+asks_of_classes at before [] = []
+asks_of_classes at before (p ∷ ps) = map (asks_of_class at (before + 1)) (elements_in p) ++ asks_of_classes at (before + 1) ps
+
+abbrev pub asks_of_template : Option Rule → List Ask
+asks_of_template (Some r) = asks_of_classes r.first 0 r.conditions
+asks_of_template None = []
+
+abbrev pub asks_of_action : List Rule → Action → List Ask
+asks_of_action templates (action.Build template holes) = asks_of_template (slice_get templates template)
+asks_of_action templates _ = []
+
+-- ---- programs
+
+abbrev pub asks_of_rule : List Class → List Rule → Rule → List Ask
+asks_of_rule classes templates r = asks_of_parts classes r.first 0 r.conditions ++ flat_map (asks_of_action templates) r.actions
+
+abbrev pub asks_of_command : List Class → List Rule → Command → List Ask
+asks_of_command classes templates (command.Add r) = asks_of_rule classes templates r
+asks_of_command classes templates _ = []
+
+abbrev pub asks_of : List Class → List Rule → List Rule → List Command → List Ask
+asks_of classes rules templates commands =
+    flat_map (asks_of_rule classes templates) rules ++ flat_map (asks_of_command classes templates) commands

@@ -64,6 +64,16 @@ given_by_actions cells made (a ∷ rest) = given_by_action cells a ++ given_by_a
 abbrev pub given_by_rule : Rule → List Given
 given_by_rule r = given_by_actions (cells_of r.conditions) 0 r.actions
 
+-- ---- productions that are built
+
+-- A constant of one may be a hole, in whose place any value can stand: each of its values counts as something else.
+abbrev pub loosened : Given → Given
+loosened (given.Constant class field v) = given.Other class field
+loosened g = g
+
+abbrev pub given_by_template : Rule → List Given
+given_by_template r = map loosened (given_by_rule r)
+
 -- ---- programs
 
 abbrev pub given_by_command : Command → List Given
@@ -71,9 +81,10 @@ given_by_command (command.Make class puts) = given.Class class ∷ map (given_by
 given_by_command (command.Add r) = given_by_rule r
 given_by_command _ = []
 
--- All productions count, including those that are removed again.
-abbrev pub given_of : List Rule → List Command → List Given
-given_of rules commands = flat_map given_by_rule rules ++ flat_map given_by_command commands
+-- All productions count, including those that are removed again and those that are built.
+abbrev pub given_of : List Rule → List Rule → List Command → List Given
+given_of rules templates commands =
+    flat_map given_by_rule rules ++ flat_map given_by_template templates ++ flat_map given_by_command commands
 
 abbrev pub is_given : List Given → Given → Bool
 is_given all g = list_any (λ f. same_given f g) all

@@ -31,5 +31,6 @@ lacking_by known (a ∷ rest) =
     (if lacks known a.class a.what then a ∷ [] else []) ++ lacking_by (known_with known a.class) rest
 
 -- what a program's conditions ask for and nothing in it provides
-abbrev pub lacking : List Class → List Rule → List Command → List Ask
-lacking classes rules commands = lacking_by (is_given (given_of rules commands)) (asks_of classes rules commands)
+abbrev pub lacking : List Class → List Rule → List Rule → List Command → List Ask
+lacking classes rules templates commands =
+    lacking_by (is_given (given_of rules templates commands)) (asks_of classes rules templates commands)

@@ -1,10 +1,11 @@
 //! What the conditions of a program ask for.
-ghost use Rattle.std.specs.Prelude.{◌≡◌, ◌<◌, ◌+◌, ◌^◌, ◌++◌, map, flat_map, IfOk, OnOk};
+ghost use Rattle.std.specs.Prelude.{◌≡◌, ◌<◌, ◌+◌, ◌^◌, ◌++◌, map, flat_map, slice_get, IfOk, OnOk};
 ghost use Rattle.ops_base.specs.WorkingMemory.{scalar_count};
 ghost use Rattle.ops_base.specs.Valid.{class_of, elements_in};
-ghost use Rattle.program_slips.specs.Asked.{ask_at, constants_by, asks_of_test, asks_of_condition, asks_of_parts, asks_of_rule, asks_of_command, asks_of};
+ghost use Rattle.program_slips.specs.Asked.{ask_at, constants_by, asks_of_test, asks_of_condition, asks_of_parts, asks_of_class, asks_of_classes, asks_of_template, asks_of_action, asks_of_rule, asks_of_command, asks_of};
 
 use crate::unmet::is_unmet;
+use ops_base::actions::Action;
 use ops_base::commands::Command;
 use ops_base::conditions::{Condition, Operand, Part, Test};
 use ops_base::elements::Class;
@@ -166,21 +167,99 @@ fn add_part(
     Ok(())
 }
 
-fn add_rule(asks: &mut Vec<Ask>, classes: &[Class], rule: &Rule) -> Result<(), OutOfMemory>
-    ensures { OnOk result (asks.new.items ≡ asks.old.items ++ asks_of_rule classes.now rule.now) }
+fn add_parts(
+    asks: &mut Vec<Ask>,
+    classes: &[Class],
+    at: usize,
+    parts: &[Part],
+) -> Result<(), OutOfMemory>
+    ensures { OnOk result (asks.new.items ≡ asks.old.items ++ asks_of_parts classes.now at 0 parts.now) }
 {
-    let parts = rule.conditions.as_slice();
     for (before, part) in parts.iter().enumerate() {
-        add_part(asks, classes, rule.first, before + 1, part)?;
+        add_part(asks, classes, at, before + 1, part)?;
     }
     Ok(())
 }
 
-fn add_command(asks: &mut Vec<Ask>, classes: &[Class], command: &Command) -> Result<(), OutOfMemory>
-    ensures { OnOk result (asks.new.items ≡ asks.old.items ++ asks_of_command classes.now command.now) }
+/// Adds an element of the class of each of these conditions.
+fn add_elements(
+    asks: &mut Vec<Ask>,
+    at: usize,
+    number: usize,
+    members: &[Condition],
+) -> Result<(), OutOfMemory>
+    ensures { OnOk result (asks.new.items ≡ asks.old.items ++ map (asks_of_class at number) members.now) }
+{
+    for condition in members {
+        let class = condition.class;
+        asks.push(ask_at(Place { at, number, class }, What::Element))?;
+    }
+    Ok(())
+}
+
+fn add_classes(asks: &mut Vec<Ask>, at: usize, parts: &[Part]) -> Result<(), OutOfMemory>
+    ensures { OnOk result (asks.new.items ≡ asks.old.items ++ asks_of_classes at 0 parts.now) }
+{
+    for (before, part) in parts.iter().enumerate() {
+        add_elements(asks, at, before + 1, members_of(part))?;
+    }
+    Ok(())
+}
+
+fn add_template(asks: &mut Vec<Ask>, templates: &[Rule], template: usize) -> Result<(), OutOfMemory>
+    ensures { OnOk result (asks.new.items ≡ asks.old.items ++ asks_of_template (slice_get templates.now template)) }
+{
+    match templates.get(template) {
+        Some(rule) => add_classes(asks, rule.first, rule.conditions.as_slice()),
+        None => Ok(()),
+    }
+}
+
+/// Adds what is asked for by the production that an action builds.
+fn add_action(asks: &mut Vec<Ask>, templates: &[Rule], action: &Action) -> Result<(), OutOfMemory>
+    ensures { OnOk result (asks.new.items ≡ asks.old.items ++ asks_of_action templates.now action.now) }
+{
+    match action {
+        Action::Build { template, .. } => add_template(asks, templates, *template),
+        _ => Ok(()),
+    }
+}
+
+fn add_actions(
+    asks: &mut Vec<Ask>,
+    templates: &[Rule],
+    actions: &[Action],
+) -> Result<(), OutOfMemory>
+    ensures { OnOk result (asks.new.items ≡ asks.old.items ++ flat_map (asks_of_action templates.now) actions.now) }
+{
+    for action in actions {
+        add_action(asks, templates, action)?;
+    }
+    Ok(())
+}
+
+fn add_rule(
+    asks: &mut Vec<Ask>,
+    classes: &[Class],
+    templates: &[Rule],
+    rule: &Rule,
+) -> Result<(), OutOfMemory>
+    ensures { OnOk result (asks.new.items ≡ asks.old.items ++ asks_of_rule classes.now templates.now rule.now) }
+{
+    add_parts(asks, classes, rule.first, rule.conditions.as_slice())?;
+    add_actions(asks, templates, rule.actions.as_slice())
+}
+
+fn add_command(
+    asks: &mut Vec<Ask>,
+    classes: &[Class],
+    templates: &[Rule],
+    command: &Command,
+) -> Result<(), OutOfMemory>
+    ensures { OnOk result (asks.new.items ≡ asks.old.items ++ asks_of_command classes.now templates.now command.now) }
 {
     match command {
-        Command::Add { rule } => add_rule(asks, classes, rule),
+        Command::Add { rule } => add_rule(asks, classes, templates, rule),
         _ => Ok(()),
     }
 }
@@ -190,16 +269,17 @@ pub(crate) fn asks_of(
     alloc: Global,
     classes: &[Class],
     rules: &[Rule],
+    templates: &[Rule],
     commands: &[Command],
 ) -> Result<Vec<Ask>, OutOfMemory>
-    ensures { IfOk result (λ v. v.items ≡ asks_of classes.now rules.now commands.now) }
+    ensures { IfOk result (λ v. v.items ≡ asks_of classes.now rules.now templates.now commands.now) }
 {
     let mut asks = Vec::new(alloc);
     for rule in rules {
-        add_rule(&mut asks, classes, rule)?;
+        add_rule(&mut asks, classes, templates, rule)?;
     }
     for command in commands {
-        add_command(&mut asks, classes, command)?;
+        add_command(&mut asks, classes, templates, command)?;
     }
     Ok(asks)
 }

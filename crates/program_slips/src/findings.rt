@@ -103,12 +103,14 @@ fn lacking_by(
 /// What the conditions of a program ask for and nothing in it provides, in text order. Takes time and memory in
 /// proportion to the program, and time in proportion to the square of the tests of one condition.
 pub fn lacking(alloc: Global, program: &Program) -> Result<Vec<Ask>, OutOfMemory>
-    ensures { IfOk result (λ v. v.items ≡ lacking program.now.classes program.now.rules program.now.commands) }
+    ensures { IfOk result (λ v. v.items ≡ lacking program.now.classes program.now.rules program.now.templates program.now.commands) }
 {
     let rules = program.rules.as_slice();
+    let templates = program.templates.as_slice();
     let commands = program.commands.as_slice();
-    let given = given_of(alloc, rules, commands)?;
-    let asks = asks_of(alloc, program.classes.as_slice(), rules, commands)?;
+    let given = given_of(alloc, rules, templates, commands)?;
+    let classes = program.classes.as_slice();
+    let asks = asks_of(alloc, classes, rules, templates, commands)?;
     let known = known_of(alloc, &given)?;
     let found = lacking_by(alloc, known, &asks)?;
     Ok(found)

@@ -1,7 +1,7 @@
 //! What a program can put into working memory.
 ghost use Rattle.std.specs.Prelude.{◌≡◌, ◌++◌, ◌∷◌, [], map, flat_map, IfOk, OnOk};
 ghost use Rattle.ops_base.specs.Valid.{cells_of};
-ghost use Rattle.program_slips.specs.Given.{given_by_terms, given_by_put, given_by_values, given_by_fixed, class_of_cell, given_by_action, cells_after, made_after, given_by_actions, given_by_rule, given_by_command, given_of};
+ghost use Rattle.program_slips.specs.Given.{given_by_terms, given_by_put, given_by_values, given_by_fixed, class_of_cell, given_by_action, cells_after, made_after, given_by_actions, given_by_rule, loosened, given_by_template, given_by_command, given_of};
 
 use ops_base::actions::{Action, Put, Term};
 use ops_base::commands::{Command, Fixed};
@@ -163,6 +163,33 @@ fn add_rule(alloc: Global, given: &mut Vec<Given>, rule: &Rule) -> Result<(), Ou
     add_actions(given, &mut cells, rule.actions.as_slice())
 }
 
+fn loosened(fact: Given) -> Given
+    ensures { result ≡ loosened fact }
+{
+    match fact {
+        Given::Constant { class, field, .. } => Given::Other { class, field },
+        _ => fact,
+    }
+}
+
+fn add_loosened(given: &mut Vec<Given>, facts: &[Given]) -> Result<(), OutOfMemory>
+    ensures { OnOk result (given.new.items ≡ given.old.items ++ map loosened facts.now) }
+{
+    for fact in facts {
+        given.push(loosened(*fact))?;
+    }
+    Ok(())
+}
+
+/// Adds what a production that is built provides.
+fn add_template(alloc: Global, given: &mut Vec<Given>, rule: &Rule) -> Result<(), OutOfMemory>
+    ensures { OnOk result (given.new.items ≡ given.old.items ++ given_by_template rule.now) }
+{
+    let mut facts = Vec::new(alloc);
+    add_rule(alloc, &mut facts, rule)?;
+    add_loosened(given, &facts)
+}
+
 fn add_command(alloc: Global, given: &mut Vec<Given>, command: &Command) -> Result<(), OutOfMemory>
     ensures { OnOk result (given.new.items ≡ given.old.items ++ given_by_command command.now) }
 {
@@ -176,17 +203,21 @@ fn add_command(alloc: Global, given: &mut Vec<Given>, command: &Command) -> Resu
     }
 }
 
-/// What the productions and the commands of a program provide, in order.
+/// What the productions and the commands of a program provide: in order, with those that are built before the commands.
 pub(crate) fn given_of(
     alloc: Global,
     rules: &[Rule],
+    templates: &[Rule],
     commands: &[Command],
 ) -> Result<Vec<Given>, OutOfMemory>
-    ensures { IfOk result (λ v. v.items ≡ given_of rules.now commands.now) }
+    ensures { IfOk result (λ v. v.items ≡ given_of rules.now templates.now commands.now) }
 {
     let mut given = Vec::new(alloc);
     for rule in rules {
         add_rule(alloc, &mut given, rule)?;
+    }
+    for template in templates {
+        add_template(alloc, &mut given, template)?;
     }
     for command in commands {
         add_command(alloc, &mut given, command)?;

@@ -7,11 +7,11 @@ use Rattle.ops_tokens.specs.Numbers.{decimal}
 use Rattle.ops_grammar.specs.Grammar.{step, ends, goes}
 use Rattle.ops_grammar.specs.Reads.{reads}
 use Rattle.read_laws.specs.LeftSides.{OperatorsMean, OperandsMean, PartsMean}
-use Rattle.read_laws.specs.RightSides.{ActionsMean, TermsMean, OperationsMean, ItemsMean}
+use Rattle.read_laws.specs.RightSides.{ActionsMean, TermsMean, OperationsMean, ItemsMean, BuildsMean}
 use Rattle.read_laws.specs.Commands.{CommandsMean}
 use Rattle.read_laws.specs.Options.{OptionsMean}
 use Rattle.read_laws.specs.Groups.{GroupsCount}
-use Rattle.read_laws.specs.Faults.{FormsFail, GroupsFail, RightSidesFail, FunctionsFail, CommandsFail}
+use Rattle.read_laws.specs.Faults.{FormsFail, GroupsFail, RightSidesFail, FunctionsFail, BuildsFail, CommandsFail}
 
 pub operators : OperatorsMean
 unfolding reads token_at is_operator is_whole is_fraction is_variable decimal step ends goes
@@ -41,6 +41,10 @@ pub items : ItemsMean
 unfolding reads token_at is_operator is_whole is_fraction is_variable decimal step ends goes
 items = (refl, refl, refl)
 
+pub builds : BuildsMean
+unfolding reads token_at is_operator is_whole is_fraction is_variable decimal step ends goes
+builds = (refl, refl, refl, refl, refl, refl, refl, refl)
+
 pub commands : CommandsMean
 unfolding reads token_at is_operator is_whole is_fraction is_variable decimal step ends goes
 commands = (refl, refl, refl, refl, refl, refl, refl, refl, refl, refl, refl, refl, refl, refl, refl, refl, refl, refl, refl, refl, refl, refl, refl, refl, refl, refl)
@@ -68,6 +72,10 @@ right_sides_fail = (refl, refl, refl, refl, refl, refl, refl, refl, refl, refl, 
 pub functions_fail : FunctionsFail
 unfolding reads token_at is_operator is_whole is_fraction is_variable decimal step ends goes
 functions_fail = (refl, refl, refl, refl, refl, refl, refl, refl, refl, refl)
+
+pub builds_fail : BuildsFail
+unfolding reads token_at is_operator is_whole is_fraction is_variable decimal step ends goes
+builds_fail = (refl, refl, refl, refl, refl, refl, refl, refl, refl, refl, refl, refl, refl, refl, refl, refl, refl, refl, refl, refl, refl, refl, refl, refl, refl, refl, refl, refl, refl, refl, refl, refl, refl, refl, refl, refl, refl, refl, refl, refl, refl)
 
 pub commands_fail : CommandsFail
 unfolding reads token_at is_operator is_whole is_fraction is_variable decimal step ends goes

@@ -1,5 +1,5 @@
 -- Texts that are not programs, each with its fault, and the line and the column of the fault.
-use Rattle.std.specs.Prelude.{◌≡◌, ℕ, List, [], ◌∷◌, ◌++◌, codes, Option, Some, None, Result, Ok, Err}
+use Rattle.std.specs.Prelude.{◌≡◌, ℕ, [], ◌∷◌, ◌++◌, codes, Option, Some, None, Result, Ok, Err}
 use Rattle.ops_base.specs.declared.endings.Fault.{Fault}
 use Rattle.ops_base.specs.declared.endings.Fault.TheVariants as fault
 use Rattle.ops_base.specs.declared.endings.Limit.TheVariants as limit
@@ -152,6 +152,52 @@ FunctionsFail =
     × Stands (codes "(literalize a n) (p r (a ^n <n>) --> (write (accept x)))") fault.BadForm 1 53
     × Stands (codes "(literalize a n) (p r (a ^n <n>) --> (bind))") fault.BadForm 1 43
     × Stands (codes "(literalize a n) (p r (a ^n <n>) --> (write (compute ((((((((((((((((((((((((((((((1)))))))))))))))))))))))))))))))))") (fault.LimitPassed limit.Nesting) 1 83
+
+-- Productions that actions build: holes whose variable is bound nowhere, and holes where none may stand; what is in sight
+-- inside and after a `build`; its form; and how many brackets may be open in it.
+abbrev pub BuildsFail : Type 0
+BuildsFail =
+    Stands (codes "(literalize a n) (p r (a ^n <x>) --> (build s (a ^n \\\\ <y>) -->))") fault.UnboundVariable 1 56
+    × Stands (codes "(literalize a n) (p r (a ^n <x>) --> (build s (a) --> (write \\ <y>)))") fault.UnboundVariable 1 64
+    × Stands (codes "(literalize a n) (p r (a ^n <x>) --> (build s (a ^n \\\\" ++ 10 ∷ codes " <y>) -->))") fault.UnboundVariable 2 2
+    × Stands (codes "(literalize a n) (p r (a) --> (build s (a ^n <x>) --> (write \\\\ <x>)))") fault.UnboundVariable 1 65
+    × Stands (codes "(literalize a n) (p r (a) --> (build s (a ^n \\\\ <y>) -->) (bind <y> 1))") fault.UnboundVariable 1 49
+    × Stands (codes "(literalize a n) (p r (a ^n <x>) --> (build s (a ^n << 1 \\\\ <y> >>) -->))") fault.UnboundVariable 1 61
+    × Stands (codes "(literalize a n) (p r (a ^n <x>) --> (build s (a ^n // \\\\ <y>) -->))") fault.UnboundVariable 1 59
+    × Stands (codes "(literalize a n) (p r (a ^n <x>) --> (build s (a ^n > \\\\ <y>) -->))") fault.UnboundVariable 1 58
+    × IsProgram (codes "(literalize a n) (p r (a ^n <x>) --> (bind <y> 1) (build s (a ^n { > \\\\ <x> <> \\ <y> }) --> (make a ^n \\\\ <x>)))")
+    × Stands (codes "(literalize a n) (p r (a ^n <x>) --> (build s (\\\\ <x>) -->))") fault.UnknownClass 1 48
+    × Stands (codes "(literalize a n) (p r (a ^n <x>) --> (build s (a ^\\\\ <x> 1) -->))") fault.UnknownAttribute 1 51
+    × Stands (codes "(literalize a n) (p r (a ^n <x>) --> (build s (a) --> (modify \\\\ <x> ^n 1)))") fault.BadForm 1 63
+    × Stands (codes "(literalize a n) (p r (a ^n <x>) --> (build s (a) --> (bind \\\\ <x> 1)))") fault.BadForm 1 61
+    × Stands (codes "(literalize a n) (p r (a ^n <x>) --> (build s (a ^n <y>) --> (write (compute <y> \\\\ <x>))))") fault.UnboundVariable 1 85
+    × Stands (codes "(literalize a n) (p r (a ^n <x>) --> (build s (a) --> (write (compute \\\\ <x>))))") fault.BadForm 1 71
+    × Stands (codes "(literalize a n) (p r (a) --> (write \\\\ <x>))") fault.UnboundVariable 1 41
+    × Stands (codes "(literalize a n) (p r (a) (a ^n \\\\ <x>) --> (build s (a) -->))") fault.BadForm 1 36
+    × IsProgram (codes "(literalize a n) (p r (a) --> (build \\\\ <x> (a ^n \\\\) --> (write \\)))")
+    × IsProgram (codes "(literalize |\\ <x| n) (p r (|\\ <x|) --> (build s (\\\\ <x> ^n 1) -->))")
+    × IsProgram (codes "(literalize a n) (p r (a) --> (build s (a ^n <y>) --> (write (compute <y> \\\\ <y>))))")
+    × Stands (codes "(literalize a n) (p r (a ^n <x>) --> (build s (a) --> (write <x>)))") fault.UnboundVariable 1 62
+    × Stands (codes "(literalize a n) (p r (a) --> (build s (a ^n <y>) -->) (write <y>))") fault.UnboundVariable 1 63
+    × Stands (codes "(literalize a n) (p r { <w> (a) } --> (build s (a) --> (remove <w>)))") fault.BadDesignator 1 64
+    × Stands (codes "(literalize a n) (p r (a) (a) --> (build s (a) --> (remove 2)))") fault.BadDesignator 1 60
+    × Stands (codes "(literalize a n) (p r (a) --> (make a) (build s (a) --> (cbind <w>)))") fault.BadDesignator 1 64
+    × Stands (codes "(literalize a n) (p r (a) --> (build s (a) --> (make a)) (cbind <w>))") fault.BadDesignator 1 65
+    × IsProgram (codes "(literalize a n) (p r { <w> (a ^n <x>) } --> (make a) (build r { (a ^n <x>) <w> } --> (remove <w>)) (cbind <m>) (modify <w> ^n <x>) (remove <m>))")
+    × Stands (codes "(literalize a n) (p r (a) --> (build s (a) --> (build t (a) -->)))") fault.BadForm 1 49
+    × Stands (codes "(literalize a n) (p r (a) --> (build))") fault.BadForm 1 37
+    × Stands (codes "(literalize a n) (p r (a) --> (build s))") fault.BadForm 1 39
+    × Stands (codes "(literalize a n) (p r (a) --> (build 5 (a) -->))") fault.BadForm 1 38
+    × Stands (codes "(literalize a n) (p r (a) --> (build s (a)))") fault.BadForm 1 43
+    × Stands (codes "(literalize a n) (p r (a) --> (build s --> (halt)))") fault.BadForm 1 40
+    × Stands (codes "(literalize a n) (p r (a) --> (build s - (a) -->))") fault.FirstNegated 1 40
+    × Stands (codes "(literalize a n) (p r (a) --> (build s (b) -->))") fault.UnknownClass 1 41
+    × Stands (codes "(literalize a n) (p r (a) --> (build s (a) -->") fault.Unclosed 1 47
+    × Stands (codes "(literalize a n) (build s (a) -->)") fault.UnknownCommand 1 19
+    × IsProgram (codes "(literalize a n) (p r (a) --> (build s (a) -->)) (p s (a) --> (build r (a) -->))")
+    × Stands (codes "(literalize a n) (make a) (p r (a) --> (build s (a ^n \\ <y>) -->))") fault.UnboundVariable 1 57
+    × IsProgram (codes "(literalize a n) (p r (a) --> (build s (a) --> (write (compute ((((((((((((((((((((((((((((1))))))))))))))))))))))))))))))))")
+    × Stands (codes "(literalize a n) (p r (a) --> (build s (a) --> (write (compute (((((((((((((((((((((((((((((1)))))))))))))))))))))))))))))))))") (fault.LimitPassed limit.Nesting) 1 92
 
 -- commands
 abbrev pub CommandsFail : Type 0

@@ -1,5 +1,5 @@
 -- How many variables a production with groups has, and how specific it is.
-use Rattle.std.specs.Prelude.{◌≡◌, ℕ, List, [], ◌∷◌, map, codes}
+use Rattle.std.specs.Prelude.{◌≡◌, ℕ, [], ◌∷◌, map, codes}
 use Rattle.ops_base.specs.declared.rules.Rule.{Rule}
 use Rattle.ops_grammar.specs.Reads.{reads}
 use Rattle.read_laws.specs.Texts.{Text, rules_in}

@@ -1,5 +1,5 @@
 -- The meaning of right sides.
-use Rattle.std.specs.Prelude.{◌≡◌, pos, List, [], ◌∷◌, ◌++◌, codes}
+use Rattle.std.specs.Prelude.{◌≡◌, ℕ, pos, true, false, List, [], ◌∷◌, ◌++◌, codes, map}
 use Rattle.ops_base.specs.Expression.{Formula, number, variable, apply}
 use Rattle.ops_base.specs.declared.actions.Action.{Action}
 use Rattle.ops_base.specs.declared.actions.Action.TheVariants as action
@@ -7,10 +7,13 @@ use Rattle.ops_base.specs.declared.actions.Item.{Item}
 use Rattle.ops_base.specs.declared.actions.Item.TheVariants.{Print, Crlf, TabTo, RightIn}
 use Rattle.ops_base.specs.declared.actions.Term.{Term}
 use Rattle.ops_base.specs.declared.actions.Term.TheVariants as term
+use Rattle.ops_base.specs.declared.conditions.Operand.TheVariants.{Variable}
+use Rattle.ops_base.specs.declared.conditions.Part.TheVariants.{One}
 use Rattle.ops_base.specs.declared.expression.Op.{Op}
 use Rattle.ops_base.specs.declared.expression.Op.TheVariants.{Add, Sub, Mul, Div, Rem}
+use Rattle.ops_base.specs.declared.values.Pred.TheVariants.{Eq}
 use Rattle.ops_base.specs.declared.values.Value.TheVariants.{Symbol, Whole}
-use Rattle.read_laws.specs.Texts.{Text, actions_of}
+use Rattle.read_laws.specs.Texts.{Text, actions_of, parts_built, actions_built, texts_built}
 
 abbrev pub Does : Text → Action → Type 0
 Does text a = actions_of text ≡ a ∷ []
@@ -70,3 +73,21 @@ ItemsMean =
     Prints (codes "(crlf)") (Crlf ∷ [])
     × Prints (codes "(tabto 3)") (TabTo 3 ∷ [])
     × Prints (codes "(rjust 3)7") (RightIn 3 ∷ Print seven ∷ [])
+
+-- the first production that is built, with these constants as holes for the x of the first element
+abbrev pub Builds : Text → List ℕ → Type 0
+Builds text numbers = Does text (action.Build 0 (map (λ n. record { number = n; variable = 0 }) numbers))
+
+-- Constants are counted from 0 on, in the order of the text. In a `compute` none is a hole. The production that is built
+-- has variables of its own, and its text is that of the `build`.
+abbrev pub BuildsMean : Type 0
+BuildsMean =
+    Builds (codes "(build s (a ^x \\\\ <n>) -->)") (0 ∷ [])
+    × Builds (codes "(build s (a ^x 7 ^y \\ <n>) --> (write 7 \\\\ <n>))") (1 ∷ 3 ∷ [])
+    × Builds (codes "(build s (a ^x << 7 \\\\ <n> >>) --> (bind <m> // \\ <n>))") (1 ∷ 2 ∷ [])
+    × Builds (codes "(build s (a ^x <m>) --> (write (compute 7 \\\\ <m>)))") []
+    × (actions_of (codes "(build s (a) -->)(build s (a) -->)") ≡ action.Build 0 [] ∷ action.Build 1 [] ∷ [])
+    × (parts_built (codes "(build s (a ^x <m>) -->)")
+    ≡ One (record { class = 0; negated = false; tests = record { field = 0; pred = Eq; operand = Variable 0; binds = true } ∷ [] }) ∷ [])
+    × (actions_built (codes "(build s (a ^x <m>) --> (bind <n> <m>) (write <n>))") ≡ action.Bind 1 (term.Variable 0) ∷ action.Write (Print (term.Variable 1) ∷ []) ∷ [])
+    × (texts_built (codes "(make a)(build s (a) -->)(build t (a) --> (halt))") ≡ codes "(build s (a) -->)" ∷ codes "(build t (a) --> (halt))" ∷ [])

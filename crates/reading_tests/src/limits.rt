@@ -68,19 +68,47 @@ fn members_are_among_256_conditions(rt: HostRuntime) -> Result<(), OutOfMemory> 
     Ok(())
 }
 
-// a production that prints 1 in this many brackets
-fn nested(alloc: Global, brackets: usize) -> Result<Vec<u8>, OutOfMemory> {
-    let before = b"(literalize a) (p r (a) --> (write (compute ";
+#[test]
+fn a_built_production_has_256_conditions(rt: HostRuntime) -> Result<(), OutOfMemory> {
+    let alloc = rt.alloc();
+    let before = b"(literalize a) (p r (a) --> (build s";
+    let most = text_of(alloc, before, 256, b" (a)", b" -->))")?;
+    assert_eq!(rt; fault_of(alloc, most), None);
+    let more = text_of(alloc, before, 257, b" (a)", b" -->))")?;
+    assert_eq!(rt; fault_of(alloc, more), passed(Limit::Conditions, 1062));
+    Ok(())
+}
+
+// a text with 1 in this many brackets
+fn nested(
+    alloc: Global,
+    before: &[u8],
+    brackets: usize,
+    after: &[u8],
+) -> Result<Vec<u8>, OutOfMemory> {
     let open = text_of(alloc, before, brackets, b"(", b"1")?;
-    text_of(alloc, &open, brackets, b")", b")))")
+    text_of(alloc, &open, brackets, b")", after)
 }
 
 #[test]
 fn brackets_are_limited(rt: HostRuntime) -> Result<(), OutOfMemory> {
     let alloc = rt.alloc();
-    assert_eq!(rt; fault_of(alloc, nested(alloc, 29)?), None);
-    let fault = fault_of(alloc, nested(alloc, 30)?);
-    assert_eq!(rt; fault, passed(Limit::Nesting, 74));
+    let before = b"(literalize a) (p r (a) --> (write (compute ";
+    let most = nested(alloc, before, 29, b")))")?;
+    assert_eq!(rt; fault_of(alloc, most), None);
+    let more = nested(alloc, before, 30, b")))")?;
+    assert_eq!(rt; fault_of(alloc, more), passed(Limit::Nesting, 74));
+    Ok(())
+}
+
+#[test]
+fn brackets_are_limited_in_a_build(rt: HostRuntime) -> Result<(), OutOfMemory> {
+    let alloc = rt.alloc();
+    let before = b"(literalize a) (p r (a) --> (build s (a) --> (write (compute ";
+    let most = nested(alloc, before, 28, b"))))")?;
+    assert_eq!(rt; fault_of(alloc, most), None);
+    let more = nested(alloc, before, 29, b"))))")?;
+    assert_eq!(rt; fault_of(alloc, more), passed(Limit::Nesting, 90));
     Ok(())
 }
 

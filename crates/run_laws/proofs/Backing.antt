@@ -104,15 +104,15 @@ back_twice s t u limit column m n k first then enough =
 
 -- ---- after these commands nothing is kept
 
-none_kept : (o : Option (List Earlier)) → unwrap_or (option_map (λ (es : List Earlier). let none : List Earlier = [] in none) o) [] ≡ []
-none_kept None = refl
-none_kept (Some es) = refl
+pub none_left : (o : Option (List Earlier)) → unwrap_or (option_map (λ (es : List Earlier). let none : List Earlier = [] in none) o) [] ≡ []
+none_left None = refl
+none_left (Some es) = refl
 
 pub trail_ended : (s : Setting) (limit column : ℕ) (c : Command) (k : Session) → ends_the_trail c ≡ true → IfOk (command_done s limit column c k).outcome (λ after. states_kept after ≡ [])
-trail_ended s limit column (command.Make class puts) k is = none_kept k.trail
-trail_ended s limit column (command.Remove tags) k is = none_kept k.trail
-trail_ended s limit column command.RemoveAll k is = none_kept k.trail
-trail_ended s limit column (command.Add r) k is = none_kept (taken_out_named r.name k).trail
+trail_ended s limit column (command.Make class puts) k is = none_left k.trail
+trail_ended s limit column (command.Remove tags) k is = none_left k.trail
+trail_ended s limit column command.RemoveAll k is = none_left k.trail
+trail_ended s limit column (command.Add r) k is = none_left (taken_out_named r.name k).trail
 trail_ended s limit column (command.Run count) k is = absurd (false≢true is)
 trail_ended s limit column (command.Wm tags) k is = absurd (false≢true is)
 trail_ended s limit column (command.Ppwm pattern) k is = absurd (false≢true is)

@@ -20,7 +20,7 @@ use Rattle.ops_io.specs.Output.{column_after}
 use Rattle.ops_meaning.specs.Acting.{Setting}
 use Rattle.ops_meaning.specs.Effects.{Effect, writes, and_then}
 use Rattle.ops_meaning.specs.Layout.{lines_at, unknown_line}
-use Rattle.ops_meaning.specs.Running.{Session, added, begun, breaks_given, command_done, commands_done, in_force, is_exit, left_unknown, level_given, rule_named, run_on, session_of, strategy_given, taken_out, taken_out_named, without_named, Earlier, LastFiring, Turned, back_given, fired_on, firing, last_of, line_of_pause, next_to_fire, one_less, trail_emptied, turn}
+use Rattle.ops_meaning.specs.Running.{Session, added, all_added, begun, breaks_given, command_done, commands_done, in_force, is_exit, left_unknown, level_given, rule_named, run_on, session_of, strategy_given, taken_out, taken_out_named, without_named, Earlier, LastFiring, Turned, back_given, fired_on, firing, last_of, line_of_pause, next_to_fire, one_less, trail_emptied, turn, turned_on}
 use Rattle.ops_meaning.proofs.Trails.{back_leaves}
 use Rattle.run_laws.specs.Excising.{AreNamedApart, has_name, is_given, is_named, left_beside, left_by, left_inst, left_number, names_told, trail_left}
 use Rattle.run_laws.specs.Programs.{AreValid}
@@ -30,10 +30,10 @@ use Rattle.run_laws.proofs.Parts.{if_ok, ok_on}
 
 -- ---- the first that passes
 
-position_head : {X : Type 0} (p : X → Bool) (x : X) (xs : List X) → p x ≡ true → position p (x ∷ xs) ≡ Some 0
+pub position_head : {X : Type 0} (p : X → Bool) (x : X) (xs : List X) → p x ≡ true → position p (x ∷ xs) ≡ Some 0
 position_head p x xs e = rw (e, lt-ltb 0 (length (x ∷ xs)) (omega arith)) refl
 
-position_next : {X : Type 0} (p : X → Bool) (x : X) (xs : List X) → p x ≡ false → position p (x ∷ xs) ≡ option_map suc (position p xs)
+pub position_next : {X : Type 0} (p : X → Bool) (x : X) (xs : List X) → p x ≡ false → position p (x ∷ xs) ≡ option_map suc (position p xs)
 position_next p x xs e = go (nat_lt (position_or_len p xs) (length xs)) refl
   where
     go : (b : Bool) → nat_lt (position_or_len p xs) (length xs) ≡ b → position p (x ∷ xs) ≡ option_map suc (position p xs)
@@ -622,15 +622,19 @@ turn_apart column (Some line) k next go_on p q = p
 turn_apart column None k None go_on p q = p
 turn_apart column None k (Some i) go_on p q = q i
 
+all_added_apart : (built : List Rule) (k : Session) → Apart k → Apart (all_added built k)
+all_added_apart [] k h = h
+all_added_apart (r ∷ built) k h = all_added_apart built (added r k) (added_apart r k h)
+
 run_apart : (left : ℕ) (s : Setting) (column : ℕ) (last : Option LastFiring) (count : Option ℕ) (k : Session) → Apart k
     → IfOk (run_on left s column last count k).outcome Apart
 run_apart zero s column last count k h =
-    turn_apart column (line_of_pause k.course.names s.rules k.breaks last count) k (next_to_fire s.rules k.course) _ h (λ i. tt)
+    turn_apart column (line_of_pause k.course.names k.rules k.breaks last count) k (next_to_fire k.rules k.course) _ h (λ i. tt)
 run_apart (suc left) s column last count k h =
-    turn_apart column (line_of_pause k.course.names s.rules k.breaks last count) k (next_to_fire s.rules k.course) _ h
-    (λ i. let e = firing s column i k.course in
-    ok_on (λ (t : Turned). Unit {0}) Apart e.bytes e.outcome (λ t. run_on left s (column_after column e.bytes) (last_of i t) (one_less count) (fired_on t.course k)) (any_ok e.outcome)
-    (λ t q. run_apart left s (column_after column e.bytes) (last_of i t) (one_less count) (fired_on t.course k) h))
+    turn_apart column (line_of_pause k.course.names k.rules k.breaks last count) k (next_to_fire k.rules k.course) _ h
+    (λ i. let e = firing (in_force s k) column i k.course in
+    ok_on (λ (t : Turned). Unit {0}) Apart e.bytes e.outcome (λ t. run_on left s (column_after column e.bytes) (last_of k.rules i t) (one_less count) (turned_on t k)) (any_ok e.outcome)
+    (λ t q. run_apart left s (column_after column e.bytes) (last_of k.rules i t) (one_less count) (turned_on t k) (all_added_apart t.built (fired_on t.course k) h)))
 
 command_apart : (s : Setting) (limit column : ℕ) (c : Command) (k : Session) → Apart k → IfOk (command_done s limit column c k).outcome Apart
 command_apart s limit column (command.Make class puts) k h = h
@@ -664,7 +668,7 @@ commands_apart s limit column (c ∷ rest) k h =
 pub session_apart : (s : Setting) (limit : ℕ) (before after : List Command) (names : Spellings) (coming : Coming) → AreValid s (before ++ after)
     → IfOk (session_of s limit before names coming).outcome (λ k. AreNamedApart k.rules)
 session_apart s limit before after names coming h =
-    commands_apart s limit 0 before (begun before s.rules names coming) (and_parts _ _ h.1).1
+    commands_apart s limit 0 before (begun before s.rules names coming) (and_parts _ _ h).1
 
 -- ---- their order
 

@@ -19,10 +19,11 @@ use Rattle.ops_base.specs.declared.elements.Change.TheVariants as change
 use Rattle.ops_base.specs.declared.elements.Class.{Class}
 use Rattle.ops_base.specs.declared.elements.Element.{Element}
 use Rattle.ops_base.specs.declared.matching.Binding.{Binding}
+use Rattle.ops_base.specs.declared.rules.Rule.{Rule}
 use Rattle.ops_base.specs.declared.values.Value.{Value}
 use Rattle.ops_base.specs.Expression.{Formula, number, variable, apply, all_variables}
 use Rattle.ops_base.specs.Matching.{value_of}
-use Rattle.ops_base.specs.Valid.{Known, is_in, is_cell, class_of, class_of_cell, is_attribute, is_vector, fits, term_is_valid, put_is_valid, puts_are_valid, item_is_valid, action_is_valid, actions_are_valid, known_after}
+use Rattle.ops_base.specs.Valid.{Known, is_in, is_cell, class_of, class_of_cell, is_attribute, is_vector, fits, term_is_valid, put_is_valid, puts_are_valid, item_is_valid, action_is_valid, actions_are_valid, builds_from, known_after}
 use Rattle.ops_base.proofs.Bound.{value_of_last}
 use Rattle.ops_io.specs.Output.{column_after}
 use Rattle.ops_meaning.specs.Acting.{Setting, ActState, no_element, evaluated, made_fields, modified_fields, has_tag, cell_of, changed, next_element, added, removed, modified, made_by, made_last, cell_bound, bound, first_of, changes_told, action_done}
@@ -182,25 +183,26 @@ module _ (classes : List Class) where
     made_found None is h = absurd (cc)
     made_found (Some c) is h = (p.made c is).one
 
-    pub action_found : (a : Action) → action_is_valid classes k a ≡ true → action_finds classes d a ≡ true
-    action_found (action.Make class puts) h =
+    pub action_found : (templates : List Rule) (a : Action) → action_is_valid classes k a ≡ true → builds_from (length templates) a ≡ true → action_finds classes templates d a ≡ true
+    action_found templates (action.Make class puts) h b =
         let parts = and_parts (nat_lt class (length classes)) (puts_are_valid classes k (class_of classes class) puts) h in
         and_from (is_class classes class) (list_all (put_finds classes d (class_of classes class)) puts) (there classes class parts.0) (puts_found (class_of classes class) puts parts.1)
-    action_found (action.Modify cell puts) h =
+    action_found templates (action.Modify cell puts) h b =
         let parts = and_parts (is_cell k cell) (puts_are_valid classes k (class_of_cell classes k cell) puts) h in
         let P : Class → Type 0 = λ c. list_all (put_finds classes d c) puts ≡ true in
         and_from (is_held classes d cell) (list_all (put_finds classes d (held_class classes d cell)) puts) (holds_there cell parts.0)
         (subst P (same_class cell) (puts_found (class_of_cell classes k cell) puts parts.1))
-    action_found (action.Remove cells) h =
+    action_found templates (action.Remove cells) h b =
         let whole = and_parts (nat_lt 0 (length cells) && fits cells) (list_all (is_cell k) cells) h in
         all_such (is_cell k) (is_held classes d) holds_there cells whole.1
-    action_found (action.Write items) h =
+    action_found templates (action.Write items) h b =
         all_such (item_is_valid classes k) (item_finds classes d) item_found items (and_parts (fits items) (list_all (item_is_valid classes k) items) h).1
-    action_found (action.Bind v t) h = and_from (term_finds classes d t) (is_single t) (term_found false t h) (single classes k t h)
-    action_found (action.Cbind cell) h = made_found k.made refl (and_parts (is_some k.made) (cell == length k.cells) h).0
-    action_found action.Halt h = refl
-    action_found (action.Build template holes) h =
-        all_such (λ (w : Hole). is_in w.variable k.bound) (λ (w : Hole). is_bound d w.variable) (λ w e. p.variables w.variable e) holes h
+    action_found templates (action.Bind v t) h b = and_from (term_finds classes d t) (is_single t) (term_found false t h) (single classes k t h)
+    action_found templates (action.Cbind cell) h b = made_found k.made refl (and_parts (is_some k.made) (cell == length k.cells) h).0
+    action_found templates action.Halt h b = refl
+    action_found templates (action.Build template holes) h b =
+        and_from (is_some (slice_get templates template)) (list_all (λ (w : Hole). is_bound d w.variable) holes) (there templates template b)
+        (all_such (λ (w : Hole). is_in w.variable k.bound) (λ (w : Hole). is_bound d w.variable) (λ w e. p.variables w.variable e) holes h)
 
   -- ---- what a valid action leaves
 
@@ -292,15 +294,17 @@ action_knows s column k (action.Bind v t) d p h =
 action_knows s column k (action.Cbind cell) d p h =
     cbound_knows s.classes k d k.made refl (and_parts (is_some k.made) (cell == length k.cells) h).0 p
 action_knows s column k action.Halt d p h = record { variables = p.variables; cells = p.cells; exist = p.exist; made = p.made }
-action_knows s column k (action.Build template holes) d p h = p
+action_knows s column k (action.Build template holes) d p h = record { variables = p.variables; cells = p.cells; exist = p.exist; made = p.made }
 
 -- So valid actions find everything that they name, one after another.
-pub actions_find : (s : Setting) (column : ℕ) (k : Known) (actions : List Action) (d : ActState) → Knows s.classes k d → actions_are_valid s.classes k actions ≡ true → AllFind s column actions d
-actions_find s column k [] d p h = tt
-actions_find s column k (a ∷ rest) d p h =
+pub actions_find : (s : Setting) (column : ℕ) (k : Known) (actions : List Action) (d : ActState) → Knows s.classes k d → actions_are_valid s.classes k actions ≡ true
+    → list_all (builds_from (length s.templates)) actions ≡ true → AllFind s column actions d
+actions_find s column k [] d p h b = tt
+actions_find s column k (a ∷ rest) d p h b =
     let parts = and_parts (action_is_valid s.classes k a) (actions_are_valid s.classes (known_after k a) rest) h in
+    let builds = and_parts (builds_from (length s.templates) a) (list_all (builds_from (length s.templates)) rest) b in
     let e = action_done s column a d in (
-      action_found s.classes k d p a parts.0,
+      action_found s.classes k d p s.templates a parts.0 builds.0,
       ok_more (Knows s.classes (known_after k a)) (AllFind s (column_after column e.bytes) rest) e.outcome (action_knows s column k a d p parts.0)
-          (λ next q. actions_find s (column_after column e.bytes) (known_after k a) rest next q parts.1),
+          (λ next q. actions_find s (column_after column e.bytes) (known_after k a) rest next q parts.1 builds.1),
     )

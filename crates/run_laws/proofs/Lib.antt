@@ -22,3 +22,6 @@ pub mod Orders
 pub mod Marks
 pub mod Excisions
 pub mod Undoings
+pub mod InForce
+pub mod Builds
+pub mod Added

@@ -1,5 +1,5 @@
 -- Each mark of a session is of a production in force.
-use Rattle.std.proofs.Common.{◌≡◌, ℕ, zero, suc, ◌+◌, ◌-◌, ◌<◌, List, [], ◌∷◌, ◌++◌, length, fold, Option, Some, None, option_map, unwrap_or, Result, Ok, Err, IfOk, refl, sym, subst, false, slice_get, ap, inl, inr, ◌⊎◌, arith}
+use Rattle.std.proofs.Common.{◌≡◌, ℕ, zero, suc, ◌+◌, ◌-◌, ◌<◌, List, [], ◌∷◌, ◌++◌, length, fold, Option, Some, None, option_map, unwrap_or, Result, Ok, Err, IfOk, false, slice_get, ap, inl, inr, ◌⊎◌, arith}
 use Rattle.std.specs.List.{list_any}
 use Rattle.ops_base.specs.Live.{without, moved_insts}
 use Rattle.std.proofs.lemmas.Bool.{cond_both}
@@ -24,7 +24,7 @@ use Rattle.ops_io.specs.Output.{column_after}
 use Rattle.ops_meaning.specs.Acting.{Setting, acted}
 use Rattle.ops_meaning.specs.Effects.{Effect, and_then, writes}
 use Rattle.ops_meaning.specs.Layout.{firing_bytes, rule_name}
-use Rattle.ops_meaning.specs.Running.{Course, LastFiring, Session, Turned, added, begun, breaks_given, command_done, commands_done, ended_in, firing, given_by, in_force, is_exit, last_of, level_given, line_of_pause, next_to_fire, one_less, rule_named, run_on, session_of, strategy_given, taken_out, taken_out_named, turn, turned_of, Earlier, back_given, fired_on, is_back, restored, states_kept, trail_emptied}
+use Rattle.ops_meaning.specs.Running.{Course, LastFiring, Session, Turned, added, all_added, begun, breaks_given, command_done, commands_done, ended_in, firing, given_by, in_force, is_exit, last_of, level_given, line_of_pause, next_to_fire, one_less, rule_named, run_on, session_of, strategy_given, taken_out, taken_out_named, turn, turned_of, Earlier, back_given, fired_on, is_back, restored, states_kept, trail_emptied, turned_on}
 use Rattle.ops_meaning.proofs.Trails.{AreKept, back_leaves, firing_kept_too, is_kept, none_kept, none_yet, those_before}
 use Rattle.run_laws.proofs.Orders.{marks_left}
 use Rattle.run_laws.proofs.Parts.{if_ok, ok_as, ok_more, ok_on}
@@ -60,7 +60,7 @@ any_ok : {E S : Type 0} (o : Result S E) → IfOk o (λ s. Unit {0})
 any_ok (Ok s) = tt
 any_ok (Err e) = tt
 
-firing_marked : (s : Setting) (column : ℕ) (i : Inst) (m : Course) → IfOk (firing s column i m).outcome (λ t. Marked s.rules t.course)
+pub firing_marked : (s : Setting) (column : ℕ) (i : Inst) (m : Course) → IfOk (firing s column i m).outcome (λ t. Marked s.rules t.course)
 firing_marked s column i m =
     let behind = column_after column (firing_bytes s.watch column m.names s.rules (m.firings + 1) i) in
     ok_as (λ a. Unit {0}) (λ (t : Turned). Marked s.rules t.course) (turned_of s.rules i m) (ended_in (m.firings + 1) i.rule (rule_name s.rules i.rule)) (acted s behind i (given_by m)).outcome
@@ -81,22 +81,6 @@ MarkedEarlier rules e = AreOf rules e.fired
 
 abbrev Good : Session → Type 0
 Good k = Marked k.rules k.course × AreKept (MarkedEarlier k.rules) k
-
--- a firing of a session whose productions in force are these
-fired_good : (rules : List Rule) (m : Course) (k : Session) → k.rules ≡ rules → Good k → Marked rules m → Good (fired_on m k)
-fired_good rules m k same g h =
-    let P : List Rule → Type 0 = λ rs. Marked rs m in
-    (subst P (sym same) h, firing_kept_too (MarkedEarlier k.rules) m k g.0 g.1)
-
-run_good : (left : ℕ) (s : Setting) (column : ℕ) (last : Option LastFiring) (count : Option ℕ) (k : Session) → k.rules ≡ s.rules → Good k
-    → IfOk (run_on left s column last count k).outcome Good
-run_good zero s column last count k same g =
-    turn_marked Good column (line_of_pause k.course.names s.rules k.breaks last count) k (next_to_fire s.rules k.course) _ g (λ i. tt)
-run_good (suc left) s column last count k same g =
-    turn_marked Good column (line_of_pause k.course.names s.rules k.breaks last count) k (next_to_fire s.rules k.course) _ g
-    (λ i. let e = firing s column i k.course in
-    ok_on (λ (t : Turned). Marked s.rules t.course) Good e.bytes e.outcome (λ t. run_on left s (column_after column e.bytes) (last_of i t) (one_less count) (fired_on t.course k)) (firing_marked s column i k.course)
-    (λ t q. run_good left s (column_after column e.bytes) (last_of i t) (one_less count) (fired_on t.course k) same (fired_good s.rules t.course k same g q)))
 
 back_good : (n : ℕ) (e : Earlier) (k : Session) → Good k → slice_get (states_kept k) n ≡ Some e → Good (restored n k e)
 back_good n e k g is = (is_kept (MarkedEarlier k.rules) k n e g.1 is, those_before (MarkedEarlier k.rules) n k e g.1)
@@ -122,10 +106,34 @@ one_more r (s ∷ rules) = let rest = one_more r rules in omega (arith, rest)
 of_more : (r : Rule) (rules : List Rule) (insts : List Inst) → AreOf rules insts → AreOf (rules ++ r ∷ []) insts
 of_more r rules insts h k d within = let low = h k d within in omega (arith, low, one_more r rules)
 
+pub added_marked : (r : Rule) (k : Session) → Marked k.rules k.course → Marked (added r k).rules (added r k).course
+added_marked r k h =
+    let left = taken_out_named r.name k in of_more r left.rules left.course.fired (by (rule_named k.rules r.name))
+  where
+    by : (at : Option ℕ) → (let left : Session = unwrap_or (option_map (λ n. taken_out n k) at) k in Marked left.rules left.course)
+    by None = h
+    by (Some n) = marks_left n k.rules k.course.fired h
+
 added_good : (r : Rule) (k : Session) → Good k → Good (added r k)
 added_good r k h =
     let left = taken_out_named r.name k in
-    emptied_good (record left { rules = left.rules ++ r ∷ []; breaks = left.breaks ++ false ∷ [] }) (of_more r left.rules left.course.fired (named_good r.name k h).0)
+    emptied_good (record left { rules = left.rules ++ r ∷ []; breaks = left.breaks ++ false ∷ [] }) (added_marked r k h.0)
+
+all_added_good : (built : List Rule) (k : Session) → Good k → Good (all_added built k)
+all_added_good [] k h = h
+all_added_good (r ∷ built) k h = all_added_good built (added r k) (added_good r k h)
+
+turned_good : (t : Turned) (k : Session) → Good k → Marked k.rules t.course → Good (turned_on t k)
+turned_good t k g h = all_added_good t.built (fired_on t.course k) (h, firing_kept_too (MarkedEarlier k.rules) t.course k g.0 g.1)
+
+run_good : (left : ℕ) (s : Setting) (column : ℕ) (last : Option LastFiring) (count : Option ℕ) (k : Session) → Good k → IfOk (run_on left s column last count k).outcome Good
+run_good zero s column last count k g =
+    turn_marked Good column (line_of_pause k.course.names k.rules k.breaks last count) k (next_to_fire k.rules k.course) _ g (λ i. tt)
+run_good (suc left) s column last count k g =
+    turn_marked Good column (line_of_pause k.course.names k.rules k.breaks last count) k (next_to_fire k.rules k.course) _ g
+    (λ i. let e = firing (in_force s k) column i k.course in
+    ok_on (λ (t : Turned). Marked k.rules t.course) Good e.bytes e.outcome (λ t. run_on left s (column_after column e.bytes) (last_of k.rules i t) (one_less count) (turned_on t k)) (firing_marked (in_force s k) column i k.course)
+    (λ t q. run_good left s (column_after column e.bytes) (last_of k.rules i t) (one_less count) (turned_on t k) (turned_good t k g q)))
 
 strategy_good : (column : ℕ) (set : Option Strategy) (k : Session) → Good k → IfOk (strategy_given column set k).outcome Good
 strategy_good column None k h = h
@@ -144,7 +152,7 @@ command_good s limit column (command.Make class puts) k h = (marks_kept k.rules 
 command_good s limit column (command.Remove tags) k h = (marks_kept k.rules _ k.course.fired, none_kept (MarkedEarlier k.rules) k)
 command_good s limit column command.RemoveAll k h = (marks_kept k.rules _ k.course.fired, none_kept (MarkedEarlier k.rules) k)
 command_good s limit column (command.Run count) k h =
-    run_good (limit - k.course.firings) (record (in_force s k) { watch = k.watch }) column None count k refl h
+    run_good (limit - k.course.firings) (record (in_force s k) { watch = k.watch }) column None count k h
 command_good s limit column (command.Wm tags) k h = h
 command_good s limit column (command.Ppwm pattern) k h = h
 command_good s limit column command.Cs k h = h

@@ -117,7 +117,7 @@ pub ranks_found : (s : Setting) (commands : List Command) (wm : List Element) (i
 ranks_found s commands wm i h rising in_set =
     let is = (conflict_set-is s.rules wm rising).sound i in_set in
     let r = is.0 in
-    let v = rule_valid s.classes s.rules h.0 commands (length s.text) i.rule r h.1 is.1 in
+    let v = rule_valid s.classes s.rules s.templates commands (length s.text) i.rule r h is.1 in
     let sixth = (and_parts _ _ (and_parts _ _ (and_parts _ _ (and_parts _ _ v).0).0).0).0 in
     let third = (and_parts _ _ (and_parts _ _ (and_parts _ _ sixth).0).0).0 in
     let first = (and_parts _ _ (and_parts _ _ third).0).0 in

@@ -106,7 +106,7 @@ module _ (wm : List Element) (before : List Change) where
       (λ w q. record { more = q.more; changes = q.changes; memory = q.memory; find = q.find })
   action_goes s column (action.Cbind cell) d p = record { more = p.more; changes = p.changes; memory = p.memory; find = p.find }
   action_goes s column action.Halt d p = record { more = p.more; changes = p.changes; memory = p.memory; find = p.find }
-  action_goes s column (action.Build template holes) d p = p
+  action_goes s column (action.Build template holes) d p = record { more = p.more; changes = p.changes; memory = p.memory; find = p.find }
 
 -- the changes of an action
 pub action_removes : (s : Setting) (column : ℕ) (a : Action) (d : ActState) → IfOk (action_done s column a d).outcome (λ next. RemovalsFind d.wm (drop (length d.changes) next.changes))

@@ -1,6 +1,7 @@
 -- The walks over tests, conditions, actions and firings skip nothing.
 use Rattle.std.proofs.Common.{◌||◌, ◌≡◌, option_map, unwrap_or, ℕ, zero, suc, ◌+◌, ◌-◌, ◌<◌, List, [], ◌∷◌, ◌++◌, Bool, true, false, cond, Option, Some, None, Result, Ok, Err, IfOk, refl, ap, sym, ◌∙◌, subst, inl, inr, ◌⊎◌, arith}
 use Rattle.std.specs.Prelude.{Contains, option_and_then, ◌≢◌}
+use Rattle.std.specs.Option.{option_or}
 use Rattle.std.specs.Bool.{MatchBool}
 use Rattle.std.specs.List.{flat_map, list_any}
 use Rattle.std.proofs.lemmas.Bool.{and_parts}
@@ -27,7 +28,8 @@ use Rattle.ops_io.specs.Output.{column_after}
 use Rattle.ops_meaning.specs.Acting.{Setting, ActState, ActionError, Misdeed, Acted, in_action, action_done, actions_done, acted}
 use Rattle.ops_meaning.specs.Effects.{Effect, writes, going_on, outcome_as}
 use Rattle.ops_meaning.specs.Layout.{firing_bytes, rule_name}
-use Rattle.ops_meaning.specs.Running.{Course, Turned, Session, LastFiring, begun, turn, has_break, line_of_count, line_of_pause, last_of, one_less, given_by, ended_in, turned_of, is_exit, in_force, firing, run_on, next_to_fire, command_done, commands_done, session_of, fired_on, is_back, trail_begun}
+use Rattle.ops_meaning.specs.Running.{Course, Turned, Session, LastFiring, begun, turn, line_of_break, line_of_count, line_of_pause, last_of, one_less, given_by, ended_in, turned_of, is_exit, in_force, firing, run_on, next_to_fire, command_done, commands_done, session_of, fired_on, turned_on, is_back, trail_begun}
+use Rattle.run_laws.proofs.Builds.{all_count, all_watch}
 use Rattle.run_laws.proofs.Parts.{ok_on}
 use Rattle.run_laws.proofs.Untrailed.{untrailed_left, commands_untrailed, any_append, or_false}
 use Rattle.run_laws.specs.Undoing.{untrailed}
@@ -99,13 +101,13 @@ action_seen P s column n (b ∷ before) after a d e each is =
 pauses : (names : Spellings) (rules : List Rule) (breaks : List Bool) (last : Option LastFiring)
     → ((line : List ℕ) × ((count : Option ℕ) → line_of_pause names rules breaks last count ≡ Some line)) ⊎ ((count : Option ℕ) → line_of_pause names rules breaks last count ≡ line_of_count count)
 pauses names rules breaks None = inr (λ count. refl)
-pauses names rules breaks (Some last) = by last.halted (has_break breaks last.rule) _ _
+pauses names rules breaks (Some last) = by last.halted (line_of_break names rules breaks last.rule) _
   where
-    by : (h b : Bool) (one two : List ℕ)
-        → ((line : List ℕ) × ((count : Option ℕ) → cond h (Some one) (cond b (Some two) (line_of_count count)) ≡ Some line)) ⊎ ((count : Option ℕ) → cond h (Some one) (cond b (Some two) (line_of_count count)) ≡ line_of_count count)
-    by true b one two = inl (one, λ count. refl)
-    by false true one two = inl (two, λ count. refl)
-    by false false one two = inr (λ count. refl)
+    by : (h : Bool) (b : Option (List ℕ)) (one : List ℕ)
+        → ((line : List ℕ) × ((count : Option ℕ) → cond h (Some one) (option_or b (line_of_count count)) ≡ Some line)) ⊎ ((count : Option ℕ) → cond h (Some one) (option_or b (line_of_count count)) ≡ line_of_count count)
+    by true b one = inl (one, λ count. refl)
+    by false (Some two) one = inl (two, λ count. refl)
+    by false None one = inr (λ count. refl)
 
 ok_same : {o : Result Session Ending} {done : Session} (k : Session) → o ≡ Ok k → o ≡ Ok done → k ≡ done
 ok_same k one two = cc
@@ -153,10 +155,9 @@ firing_counted s column i m =
     by (Ok a) = refl
     by (Err e) = tt
 
--- these productions and this trace level
-record Stays (rules : List Rule) (watch : ℕ) (k : Session) : Type 0 where
-  same_rules : k.rules ≡ rules
-  same_watch : k.watch ≡ watch
+-- this trace level
+abbrev Stays : ℕ → Session → Type 0
+Stays watch k = k.watch ≡ watch
 
 turn_keeps : (Q : Session → Type 0) (column : ℕ) (line : Option (List ℕ)) (k : Session) (next : Option Inst) (go_on : Inst → Effect Ending Session) → Q k
     → ((i : Inst) → IfOk (go_on i).outcome Q) → IfOk (turn column line k next go_on).outcome Q
@@ -164,84 +165,83 @@ turn_keeps Q column (Some line) k next go_on p q = p
 turn_keeps Q column None k None go_on p q = p
 turn_keeps Q column None k (Some i) go_on p q = q i
 
-run_keeps : (rules : List Rule) (watch left : ℕ) (s : Setting) (column : ℕ) (last : Option LastFiring) (count : Option ℕ) (k : Session) → k.rules ≡ rules → k.watch ≡ watch
-    → IfOk (run_on left s column last count k).outcome (Stays rules watch)
-run_keeps rules watch zero s column last count k e f =
-    turn_keeps (Stays rules watch) column (line_of_pause k.course.names s.rules k.breaks last count) k (next_to_fire s.rules k.course) _ (record { same_rules = e; same_watch = f }) (λ i. tt)
-run_keeps rules watch (suc left) s column last count k e f =
-    turn_keeps (Stays rules watch) column (line_of_pause k.course.names s.rules k.breaks last count) k (next_to_fire s.rules k.course) _ (record { same_rules = e; same_watch = f })
-    (λ i. let fire = firing s column i k.course in
-    ok_on (λ (t : Turned). t.course.firings ≡ k.course.firings + 1) (Stays rules watch) fire.bytes fire.outcome (λ t. run_on left s (column_after column fire.bytes) (last_of i t) (one_less count) (fired_on t.course k)) (firing_counted s column i k.course)
-    (λ t q. run_keeps rules watch left s (column_after column fire.bytes) (last_of i t) (one_less count) (fired_on t.course k) e f))
+run_keeps : (watch left : ℕ) (s : Setting) (column : ℕ) (last : Option LastFiring) (count : Option ℕ) (k : Session) → k.watch ≡ watch
+    → IfOk (run_on left s column last count k).outcome (Stays watch)
+run_keeps watch zero s column last count k f =
+    turn_keeps (Stays watch) column (line_of_pause k.course.names k.rules k.breaks last count) k (next_to_fire k.rules k.course) _ f (λ i. tt)
+run_keeps watch (suc left) s column last count k f =
+    turn_keeps (Stays watch) column (line_of_pause k.course.names k.rules k.breaks last count) k (next_to_fire k.rules k.course) _ f
+    (λ i. let fire = firing (in_force s k) column i k.course in
+    ok_on (λ (t : Turned). t.course.firings ≡ k.course.firings + 1) (Stays watch) fire.bytes fire.outcome (λ t. run_on left s (column_after column fire.bytes) (last_of k.rules i t) (one_less count) (turned_on t k)) (firing_counted (in_force s k) column i k.course)
+    (λ t q. run_keeps watch left s (column_after column fire.bytes) (last_of k.rules i t) (one_less count) (turned_on t k) (all_watch t.built (fired_on t.course k) ∙ f)))
 
-module _ (P : Setting → ℕ → Inst → Course → Type 0) (s : Setting) (limit : ℕ) (i : Inst) (done : Session) (room : done.course.firings < limit) (is_next : next_to_fire s.rules done.course ≡ Some i) where
+module _ (P : Setting → ℕ → Inst → Course → Type 0) (s : Setting) (limit : ℕ) (i : Inst) (done : Session) (room : done.course.firings < limit) (is_next : next_to_fire done.rules done.course ≡ Some i) where
   -- P holds of the firing with which a run continues
   abbrev Seen : Type 0
-  Seen = (at : ℕ) × P s at i done.course
+  Seen = (at : ℕ) × P (in_force s done) at i done.course
 
   pub run_seen : (left n column : ℕ) (last : Option LastFiring) (count : Option ℕ) (k : Session) → left ≡ limit - k.course.firings → HasMore count n
       → EachOfRun P left s column last count k
       → (run_on left s column last (Some n) k).outcome ≡ Ok done → (run_on left s column last (Some (suc n)) k).outcome ≢ Ok done → Seen
-  run_seen zero n column last count k counts has each is more = absurd (none n is more (pauses k.course.names s.rules k.breaks last))
+  run_seen zero n column last count k counts has each is more = absurd (none n is more (pauses k.course.names k.rules k.breaks last))
     where
       none : (n : ℕ) → (run_on zero s column last (Some n) k).outcome ≡ Ok done → (run_on zero s column last (Some (suc n)) k).outcome ≢ Ok done
-          → ((line : List ℕ) × ((count : Option ℕ) → line_of_pause k.course.names s.rules k.breaks last count ≡ Some line)) ⊎ ((count : Option ℕ) → line_of_pause k.course.names s.rules k.breaks last count ≡ line_of_count count) → ⊥
+          → ((line : List ℕ) × ((count : Option ℕ) → line_of_pause k.course.names k.rules k.breaks last count ≡ Some line)) ⊎ ((count : Option ℕ) → line_of_pause k.course.names k.rules k.breaks last count ≡ line_of_count count) → ⊥
       none n is more (inl p) = more (turn_paused column _ p.0 k _ _ (p.1 (Some (suc n))) ∙ sym (turn_paused column _ p.0 k _ _ (p.1 (Some n))) ∙ is)
       none zero is more (inr f) =
           let same : k ≡ done = ok_same k (turn_paused column _ _ k _ _ (f (Some zero))) is in
           let firings : k.course.firings ≡ done.course.firings = ap (λ (k : Session). k.course.firings) same in
           omega (arith, counts, firings, room)
-      none (suc n) is more (inr f) = by (next_to_fire s.rules k.course) refl
+      none (suc n) is more (inr f) = by (next_to_fire k.rules k.course) refl
         where
-          by : (o : Option Inst) → next_to_fire s.rules k.course ≡ o → ⊥
+          by : (o : Option Inst) → next_to_fire k.rules k.course ≡ o → ⊥
           by None ended = more (turn_ended column _ k _ _ ended ∙ sym (turn_ended column _ k _ _ ended) ∙ is)
           by (Some j) on = stops_or_leaves (ending.Limit k.course.firings) (turn_goes column _ k _ j _ (f (Some (suc n))) on) is
   run_seen (suc left) n column last count k counts has each is more =
-      by n has is more (pauses k.course.names s.rules k.breaks last)
-      (λ n column j t counts has each is more. run_seen left n column (last_of j t) (one_less count) (fired_on t.course k) counts has each is more)
+      by n has is more (pauses k.course.names k.rules k.breaks last)
+      (λ n column j t counts has each is more. run_seen left n column (last_of k.rules j t) (one_less count) (turned_on t k) counts has each is more)
     where
       by : (n : ℕ) → HasMore count n
           → (run_on (suc left) s column last (Some n) k).outcome ≡ Ok done → (run_on (suc left) s column last (Some (suc n)) k).outcome ≢ Ok done
-          → ((line : List ℕ) × ((count : Option ℕ) → line_of_pause k.course.names s.rules k.breaks last count ≡ Some line)) ⊎ ((count : Option ℕ) → line_of_pause k.course.names s.rules k.breaks last count ≡ line_of_count count)
-          → ((n column : ℕ) (j : Inst) (t : Turned) → left ≡ limit - t.course.firings → HasMore (one_less count) n
-          → EachOfRun P left s column (last_of j t) (one_less count) (fired_on t.course k)
-          → (run_on left s column (last_of j t) (Some n) (fired_on t.course k)).outcome ≡ Ok done
-          → (run_on left s column (last_of j t) (Some (suc n)) (fired_on t.course k)).outcome ≢ Ok done → Seen)
+          → ((line : List ℕ) × ((count : Option ℕ) → line_of_pause k.course.names k.rules k.breaks last count ≡ Some line)) ⊎ ((count : Option ℕ) → line_of_pause k.course.names k.rules k.breaks last count ≡ line_of_count count)
+          → ((n column : ℕ) (j : Inst) (t : Turned) → left ≡ limit - (turned_on t k).course.firings → HasMore (one_less count) n
+          → EachOfRun P left s column (last_of k.rules j t) (one_less count) (turned_on t k)
+          → (run_on left s column (last_of k.rules j t) (Some n) (turned_on t k)).outcome ≡ Ok done
+          → (run_on left s column (last_of k.rules j t) (Some (suc n)) (turned_on t k)).outcome ≢ Ok done → Seen)
           → Seen
       by n has is more (inl p) rest =
           absurd (more (turn_paused column _ p.0 k _ _ (p.1 (Some (suc n))) ∙ sym (turn_paused column _ p.0 k _ _ (p.1 (Some n))) ∙ is))
       by zero has is more (inr f) rest =
           let same : k ≡ done = ok_same k (turn_paused column _ _ k _ _ (f (Some zero))) is in
-          let here : next_to_fire s.rules k.course ≡ Some i = ap (λ (k : Session). next_to_fire s.rules k.course) same ∙ is_next in
+          let here : next_to_fire k.rules k.course ≡ Some i = ap (λ (k : Session). next_to_fire k.rules k.course) same ∙ is_next in
           let seen = next_seen _ _ i _ (f count ∙ unpaused count zero has) here each in
-          let Q : Session → Type 0 = λ k. P s column i k.course in
+          let Q : Session → Type 0 = λ k. P (in_force s k) column i k.course in
           (column, subst Q same seen.0)
-      by (suc n) has is more (inr f) rest = at_next (next_to_fire s.rules k.course) refl
+      by (suc n) has is more (inr f) rest = at_next (next_to_fire k.rules k.course) refl
         where
-          at_next : (o : Option Inst) → next_to_fire s.rules k.course ≡ o → Seen
+          at_next : (o : Option Inst) → next_to_fire k.rules k.course ≡ o → Seen
           at_next None ended = absurd (more (turn_ended column _ k _ _ ended ∙ sym (turn_ended column _ k _ _ ended) ∙ is))
           at_next (Some j) on =
               let goes = turn_goes column _ k _ j _ (f (Some (suc n))) on in
               let goes_more = turn_goes column _ k _ j _ (f (Some (suc (suc n)))) on in
               let seen = next_seen _ _ j _ (f count ∙ unpaused count (suc n) has) on each in
-              let e = firing s column j k.course in
-              let Left : ℕ → Type 0 = λ n. (going_on e.bytes e.outcome (λ t. run_on left s (column_after column e.bytes) (last_of j t) (Some n) (fired_on t.course k))).outcome ≡ Ok done in
-              fired e.bytes e.outcome (firing_counted s column j k.course) seen.1
+              let e = firing (in_force s k) column j k.course in
+              let Left : ℕ → Type 0 = λ n. (going_on e.bytes e.outcome (λ t. run_on left s (column_after column e.bytes) (last_of k.rules j t) (Some n) (turned_on t k))).outcome ≡ Ok done in
+              fired e.bytes e.outcome (firing_counted (in_force s k) column j k.course) seen.1
               (subst Left (one_off n) (sym goes ∙ is)) (λ l. more (goes_more ∙ subst Left (sym (one_off (suc n))) l))
             where
               fired : (bytes : List ℕ) (o : Result Turned Ending) → IfOk o (λ t. t.course.firings ≡ k.course.firings + 1)
-                  → IfOk o (λ t. EachOfRun P left s (column_after column bytes) (last_of j t) (one_less count) (fired_on t.course k))
-                  → (going_on bytes o (λ t. run_on left s (column_after column bytes) (last_of j t) (Some n) (fired_on t.course k))).outcome ≡ Ok done
-                  → (going_on bytes o (λ t. run_on left s (column_after column bytes) (last_of j t) (Some (suc n)) (fired_on t.course k))).outcome ≢ Ok done → Seen
+                  → IfOk o (λ t. EachOfRun P left s (column_after column bytes) (last_of k.rules j t) (one_less count) (turned_on t k))
+                  → (going_on bytes o (λ t. run_on left s (column_after column bytes) (last_of k.rules j t) (Some n) (turned_on t k))).outcome ≡ Ok done
+                  → (going_on bytes o (λ t. run_on left s (column_after column bytes) (last_of k.rules j t) (Some (suc n)) (turned_on t k))).outcome ≢ Ok done → Seen
               fired bytes (Ok t) counted each is more =
-                  rest n (column_after column bytes) j t (omega (arith, counts, counted)) (more_left count n has) each is more
+                  rest n (column_after column bytes) j t (let same = all_count t.built (fired_on t.course k) in omega (arith, counts, counted, same)) (more_left count n has) each is more
               fired bytes (Err x) counted each is more = absurd (cc)
 
--- A run keeps the productions in force, and the trace level.
-run_stays : (left : ℕ) (s : Setting) (column : ℕ) (last : Option LastFiring) (count : Option ℕ) (k done : Session) → (run_on left s column last count k).outcome ≡ Ok done → (done.rules ≡ k.rules) × (done.watch ≡ k.watch)
+-- A run keeps the trace level.
+run_stays : (left : ℕ) (s : Setting) (column : ℕ) (last : Option LastFiring) (count : Option ℕ) (k done : Session) → (run_on left s column last count k).outcome ≡ Ok done → done.watch ≡ k.watch
 run_stays left s column last count k done is =
-    let R : Result Session Ending → Type 0 = λ o. IfOk o (Stays k.rules k.watch) in
-    let kept = subst R is (run_keeps k.rules k.watch left s column last count k refl refl) in (kept.same_rules, kept.same_watch)
+    let R : Result Session Ending → Type 0 = λ o. IfOk o (Stays k.watch) in subst R is (run_keeps k.watch left s column last count k refl)
 
 -- ---- a session
 
@@ -265,11 +265,10 @@ module _ (P : Setting → ℕ → Inst → Course → Type 0) (s : Setting) (lim
       let once_more = run_on (limit - k.course.firings) at_level column None (Some (suc n)) k in
       let r : once.outcome ≡ Ok done = last_left once.bytes once.outcome is in
       let stay = run_stays (limit - k.course.firings) at_level column None (Some n) k done r in
-      let N : List Rule → Type 0 = λ rules. next_to_fire rules done.course ≡ Some i in
-      let seen = run_seen P at_level limit i done room (subst N stay.0 is_next) (limit - k.course.firings) n column None count k refl has each.0 r
+      let seen = run_seen P at_level limit i done room is_next (limit - k.course.firings) n column None count k refl has each.0 r
       (λ same. more (left_last once_more.bytes once_more.outcome same)) in
-      let Q : List Rule → ℕ → Type 0 = λ rules watch. P (record s { rules = rules; watch = watch }) seen.0 i done.course in
-      (seen.0, subst (λ watch. Q done.rules watch) (sym stay.1) (subst (λ rules. Q rules k.watch) (sym stay.0) seen.1))
+      let Q : ℕ → Type 0 = λ watch. P (record s { rules = done.rules; watch = watch }) seen.0 i done.course in
+      (seen.0, subst Q (sym stay) seen.1)
   commands_seen n column (c ∷ before) after count k has each is more =
       let e = command_done (in_force s k) limit column c k in
       by (is_exit c) e.bytes e.outcome (λ next each is more. commands_seen n (column_after column e.bytes) before after count next has each is more) each is more

@@ -21,7 +21,7 @@ use Rattle.ops_base.specs.declared.values.Pred.{Pred}
 use Rattle.ops_base.specs.declared.values.Value.{Value}
 use Rattle.ops_base.specs.ConflictSet.{extended, some_meets, some_extend, at_condition, at_part, walk, empty_partial, matches_of, conflict_set}
 use Rattle.ops_base.specs.Matching.{operand_holds, bound_to, after_tests, match_of}
-use Rattle.ops_base.specs.Valid.{Sight, fits, class_of, is_field, operand_is_valid, test_is_valid, tests_are_valid, condition_is_valid, members_are_valid, part_is_valid, parts_are_valid, sight_with, sight_after, sight_after_tests, sight_after_condition, sight_after_part, sight_after_parts, nothing_in_sight, cells_of, known_of, actions_are_valid, rule_is_valid, is_valid}
+use Rattle.ops_base.specs.Valid.{Sight, fits, class_of, is_field, operand_is_valid, test_is_valid, tests_are_valid, condition_is_valid, members_are_valid, part_is_valid, parts_are_valid, sight_with, sight_after, sight_after_tests, sight_after_condition, sight_after_part, sight_after_parts, nothing_in_sight, cells_of, known_of, actions_are_valid, rule_is_valid, rule_builds_from, is_valid}
 use Rattle.ops_base.specs.WorkingMemory.{field_of, HasRisingTags}
 use Rattle.ops_base.proofs.ConflictSetLaws.{conflict_set-is}
 use Rattle.ops_base.proofs.Members.{IsMember, flat_map_member, member_from_contains}
@@ -162,6 +162,12 @@ rule_valid classes rules templates commands text k r h at =
     let seventh = (and_parts _ _ (and_parts _ _ (and_parts _ _ (and_parts _ _ h).0).0).0).0 in
     each_at (rule_is_valid classes text) rules k r (and_parts _ _ (and_parts _ _ (and_parts _ _ seventh).0).0).1 at
 
+-- it builds from the templates of the program
+rule_builds : (classes : List Class) (rules templates : List Rule) (commands : List Command) (text k : ℕ) (r : Rule) → is_valid classes rules templates commands text ≡ true → slice_get rules k ≡ Some r → rule_builds_from (length templates) r ≡ true
+rule_builds classes rules templates commands text k r h at =
+    let ninth = (and_parts _ _ (and_parts _ _ h).0).0 in
+    each_at (rule_builds_from (length templates)) rules k r (and_parts _ _ (and_parts _ _ ninth).0).1 at
+
 pub sides_valid : (classes : List Class) (text : ℕ) (r : Rule) → rule_is_valid classes text r ≡ true → (parts_are_valid classes nothing_in_sight r.conditions ≡ true) × (actions_are_valid classes (known_of r.conditions) r.actions ≡ true)
 sides_valid classes text r h =
     let fifth = (and_parts _ _ (and_parts _ _ (and_parts _ _ (and_parts _ _ (and_parts _ _ h).0).0).0).0).0 in
@@ -170,7 +176,7 @@ sides_valid classes text r h =
 
 pub left_side_finds : (s : Setting) (commands : List Command) (wm : List Element) (k : ℕ) (r : Rule) → AreValid s commands → slice_get s.rules k ≡ Some r → WalkFinds s.classes wm r.conditions (empty_partial ∷ [])
 left_side_finds s commands wm k r h at =
-    let sides = sides_valid s.classes (length s.text) r (rule_valid s.classes s.rules h.0 commands (length s.text) k r h.1 at) in
+    let sides = sides_valid s.classes (length s.text) r (rule_valid s.classes s.rules s.templates commands (length s.text) k r h at) in
     walk_found s.classes wm r.conditions nothing_in_sight (empty_partial ∷ []) nothing_seen sides.0
 
 -- the classes of the positive conditions exist
@@ -206,10 +212,11 @@ pub right_side_finds : (s : Setting) (commands : List Command) (column : ℕ) (g
 right_side_finds s commands column g i h rising in_set =
     let is = (conflict_set-is s.rules g.wm rising).sound i in_set in
     let r = is.0 in
-    let sides = sides_valid s.classes (length s.text) r (rule_valid s.classes s.rules h.0 commands (length s.text) i.rule r h.1 is.1) in
+    let sides = sides_valid s.classes (length s.text) r (rule_valid s.classes s.rules s.templates commands (length s.text) i.rule r h is.1) in
     let conditions : conditions_of s.rules i.rule ≡ r.conditions = ap (λ o. unwrap_or (option_map (λ (r : Rule). r.conditions) o) []) is.1 in
     let actions : actions_of s.rules i.rule ≡ r.actions = ap (λ o. unwrap_or (option_map (λ (r : Rule). r.actions) o) []) is.1 in
     let f = meets-matches_of g.wm r.conditions i.tags is.2 in
     let P : List Action → Type 0 = λ as_. AllFind s column as_ (begun s i g) in
     subst P (sym actions)
-    (actions_find s column (known_of r.conditions) r.actions (begun s i g) (begun_knows s g i r rising conditions sides.0 f.0 f.1 f.2) sides.1)
+    (actions_find s column (known_of r.conditions) r.actions (begun s i g) (begun_knows s g i r rising conditions sides.0 f.0 f.1 f.2) sides.1
+    (rule_builds s.classes s.rules s.templates commands (length s.text) i.rule r h is.1))

@@ -6,11 +6,12 @@ use Rattle.ops_base.specs.declared.commands.Command.TheVariants as command
 use Rattle.ops_base.specs.declared.commands.Strategy.{Strategy}
 use Rattle.ops_base.specs.declared.endings.Ending.{Ending}
 use Rattle.ops_base.specs.declared.rules.Inst.{Inst}
+use Rattle.ops_base.specs.declared.rules.Rule.{Rule}
 use Rattle.ops_base.specs.declared.values.Sym.{Sym}
 use Rattle.ops_io.specs.Output.{column_after}
 use Rattle.ops_meaning.specs.Acting.{Setting}
 use Rattle.ops_meaning.specs.Effects.{Effect, writes, led_by, going_on, and_then, told_as, outcome_as}
-use Rattle.ops_meaning.specs.Running.{Session, LastFiring, breaks_given, command_done, commands_done, fired_on, firing, in_force, is_back, is_exit, last_of, level_given, line_of_pause, next_to_fire, one_less, rule_named, run_on, strategy_given, taken_out, taken_out_named, trail_emptied, turn}
+use Rattle.ops_meaning.specs.Running.{Session, LastFiring, added, all_added, breaks_given, command_done, commands_done, fired_on, firing, in_force, is_back, is_exit, last_of, level_given, line_of_pause, next_to_fire, one_less, rule_named, run_on, strategy_given, taken_out, taken_out_named, trail_emptied, turn, turned_on}
 use Rattle.run_laws.specs.Undoing.{untrailed}
 
 pub any_append : (xs ys : List Command) → list_any is_back (xs ++ ys) ≡ (list_any is_back xs || list_any is_back ys)
@@ -25,7 +26,7 @@ pub or_false : (b : Bool) → (b || false) ≡ b
 or_false true = refl
 or_false false = refl
 
-or_none : (a b : Bool) → (a || b) ≡ false → (a ≡ false) × (b ≡ false)
+pub or_none : (a b : Bool) → (a || b) ≡ false → (a ≡ false) × (b ≡ false)
 or_none true b e = absurd (cc)
 or_none false b e = (refl, e)
 
@@ -52,17 +53,6 @@ turn_bare column (Some line) k next f g h = refl
 turn_bare column None k None f g h = refl
 turn_bare column None k (Some i) f g h = h i
 
-run_untrailed : (left : ℕ) (s : Setting) (column : ℕ) (last : Option LastFiring) (count : Option ℕ) (k : Session) → bare (run_on left s column last count k) ≡ run_on left s column last count (untrailed k)
-run_untrailed zero s column last count k =
-    turn_bare column (line_of_pause k.course.names s.rules k.breaks last count) k (next_to_fire s.rules k.course) _ _ (λ i. refl)
-run_untrailed (suc left) s column last count k =
-    turn_bare column (line_of_pause k.course.names s.rules k.breaks last count) k (next_to_fire s.rules k.course) _ _
-    (λ i. let e = firing s column i k.course in
-    then_bare e.bytes e.outcome
-    (λ t. run_on left s (column_after column e.bytes) (last_of i t) (one_less count) (fired_on t.course k))
-    (λ t. run_on left s (column_after column e.bytes) (last_of i t) (one_less count) (fired_on t.course (untrailed k)))
-    (λ t. run_untrailed left s (column_after column e.bytes) (last_of i t) (one_less count) (fired_on t.course k)))
-
 named_untrailed : (name : Sym) (k : Session) → untrailed (taken_out_named name k) ≡ taken_out_named name (untrailed k)
 named_untrailed name k = by (rule_named k.rules name)
   where
@@ -74,6 +64,27 @@ all_untrailed : (names : List Sym) (k : Session) → untrailed (fold (λ k name.
 all_untrailed [] k = refl
 all_untrailed (name ∷ names) k =
     all_untrailed names (taken_out_named name k) ∙ ap (λ j. fold (λ k name. taken_out_named name k) j names) (named_untrailed name k)
+
+added_untrailed : (r : Rule) (k : Session) → untrailed (added r k) ≡ added r (untrailed k)
+added_untrailed r k =
+    let with_rule : Session → Session = λ left. record (trail_emptied left) { rules = left.rules ++ r ∷ []; breaks = left.breaks ++ false ∷ [] } in
+    ap with_rule (named_untrailed r.name k)
+
+all_added_untrailed : (built : List Rule) (k : Session) → untrailed (all_added built k) ≡ all_added built (untrailed k)
+all_added_untrailed [] k = refl
+all_added_untrailed (r ∷ built) k = all_added_untrailed built (added r k) ∙ ap (all_added built) (added_untrailed r k)
+
+run_untrailed : (left : ℕ) (s : Setting) (column : ℕ) (last : Option LastFiring) (count : Option ℕ) (k : Session) → bare (run_on left s column last count k) ≡ run_on left s column last count (untrailed k)
+run_untrailed zero s column last count k =
+    turn_bare column (line_of_pause k.course.names k.rules k.breaks last count) k (next_to_fire k.rules k.course) _ _ (λ i. refl)
+run_untrailed (suc left) s column last count k =
+    turn_bare column (line_of_pause k.course.names k.rules k.breaks last count) k (next_to_fire k.rules k.course) _ _
+    (λ i. let e = firing (in_force s k) column i k.course in
+    then_bare e.bytes e.outcome
+    (λ t. run_on left s (column_after column e.bytes) (last_of k.rules i t) (one_less count) (turned_on t k))
+    (λ t. run_on left s (column_after column e.bytes) (last_of k.rules i t) (one_less count) (turned_on t (untrailed k)))
+    (λ t. run_untrailed left s (column_after column e.bytes) (last_of k.rules i t) (one_less count) (turned_on t k)
+    ∙ ap (run_on left s (column_after column e.bytes) (last_of k.rules i t) (one_less count)) (all_added_untrailed t.built (fired_on t.course k))))
 
 strategy_untrailed : (column : ℕ) (set : Option Strategy) (k : Session) → bare (strategy_given column set k) ≡ strategy_given column set (untrailed k)
 strategy_untrailed column None k = refl
@@ -99,9 +110,7 @@ command_untrailed s limit column (command.Pm names) k e = refl
 command_untrailed s limit column (command.Strategy set) k e = strategy_untrailed column set k
 command_untrailed s limit column (command.Watch set) k e = level_untrailed column set k
 command_untrailed s limit column (command.Pbreak names) k e = breaks_untrailed s column names k
-command_untrailed s limit column (command.Add r) k e =
-    let with_rule : Session → Effect Ending Session = λ left. writes [] (record (trail_emptied left) { rules = left.rules ++ r ∷ []; breaks = left.breaks ++ false ∷ [] }) in
-    ap with_rule (named_untrailed r.name k)
+command_untrailed s limit column (command.Add r) k e = ap (λ (left : Session). let f : Effect Ending Session = writes [] left in f) (added_untrailed r k)
 command_untrailed s limit column (command.Excise names) k e =
     ap (λ (left : Session). let f : Effect Ending Session = record { bytes = (command_done s limit column (command.Excise names) k).bytes; outcome = Ok left } in f) (all_untrailed names k)
 command_untrailed s limit column (command.Back count) k e = absurd (cc)

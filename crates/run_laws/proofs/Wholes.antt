@@ -177,7 +177,7 @@ action_whole s valid column k (action.Cbind cell) d p q h =
     by None is some = absurd (cc)
     by (Some c) is some = (p.made c is).one
 action_whole s valid column k action.Halt d p q h = record { cells = q.cells; made = q.made }
-action_whole s valid column k (action.Build template holes) d p q h = q
+action_whole s valid column k (action.Build template holes) d p q h = record { cells = q.cells; made = q.made }
 
 -- valid actions make whole elements
 pub actions_whole : (s : Setting) (valid : list_all class_is_valid s.classes ≡ true) (column n : ℕ) (k : Known) (actions : List Action) (d : ActState) → Knows s.classes k d → AreWholes s.classes valid d → actions_are_valid s.classes k actions ≡ true

@@ -1,5 +1,5 @@
--- What productions and commands name exists: each variable, cell and class, and the number of each field. So the values
--- that the definitions use if one of these is absent never occur.
+-- What productions and commands name exists: each variable, cell, class and template, and the number of each field. So
+-- the values that the definitions use if one of these is absent never occur.
 use Rattle.std.specs.Prelude.{◌≡◌, ℕ, List, [], ◌∷◌, Bool, true, false, ◌&&◌, ◌||◌, Some, None, slice_get, is_some, unwrap_or, option_map, Contains, IsTrue, IfOk}
 use Rattle.std.specs.List.{flat_map, list_all, list_any}
 use Rattle.ops_base.specs.declared.actions.Action.{Action}
@@ -24,6 +24,7 @@ use Rattle.ops_base.specs.declared.elements.Change.TheVariants as change
 use Rattle.ops_base.specs.declared.elements.Class.{Class}
 use Rattle.ops_base.specs.declared.elements.Element.{Element}
 use Rattle.ops_base.specs.declared.matching.Binding.{Binding}
+use Rattle.ops_base.specs.declared.rules.Rule.{Rule}
 use Rattle.ops_base.specs.ConflictSet.{at_part}
 use Rattle.ops_base.specs.Expression.{all_variables}
 use Rattle.ops_base.specs.Matching.{value_of, after_test, match_of}
@@ -134,18 +135,20 @@ item_finds classes d (item.RightIn n) = true
 
 -- Each variable that the action evaluates is bound, and each cell that it names holds an element. Each class that it
 -- names exists, and so does the class of each such element. Each field is one of its class. The term of `bind` gives
--- exactly one value. If the action binds a cell to the element that was made last, an element was made.
-abbrev pub action_finds : List Class → ActState → Action → Bool
-action_finds classes d (action.Make class puts) =
+-- exactly one value. If the action binds a cell to the element that was made last, an element was made. The template
+-- that it builds from is one of these.
+abbrev pub action_finds : List Class → List Rule → ActState → Action → Bool
+action_finds classes templates d (action.Make class puts) =
     is_class classes class && list_all (put_finds classes d (class_of classes class)) puts
-action_finds classes d (action.Modify cell puts) =
+action_finds classes templates d (action.Modify cell puts) =
     is_held classes d cell && list_all (put_finds classes d (held_class classes d cell)) puts
-action_finds classes d (action.Remove cells) = list_all (is_held classes d) cells
-action_finds classes d (action.Write items) = list_all (item_finds classes d) items
-action_finds classes d (action.Bind variable t) = term_finds classes d t && is_single t
-action_finds classes d (action.Cbind cell) = has_made d
-action_finds classes d action.Halt = true
-action_finds classes d (action.Build template holes) = list_all (λ h. is_bound d h.variable) holes
+action_finds classes templates d (action.Remove cells) = list_all (is_held classes d) cells
+action_finds classes templates d (action.Write items) = list_all (item_finds classes d) items
+action_finds classes templates d (action.Bind variable t) = term_finds classes d t && is_single t
+action_finds classes templates d (action.Cbind cell) = has_made d
+action_finds classes templates d action.Halt = true
+action_finds classes templates d (action.Build template holes) =
+    is_some (slice_get templates template) && list_all (λ h. is_bound d h.variable) holes
 
 -- Starting from a column and a state, P holds of each action with the state to which the actions before it lead.
 abbrev pub EachAction : (Action → ActState → Type 0) → Setting → ℕ → List Action → ActState → Type 0
@@ -156,7 +159,7 @@ EachAction P s column (a ∷ rest) d =
 
 -- Each action finds everything that it names.
 abbrev pub AllFind : Setting → ℕ → List Action → ActState → Type 0
-AllFind s column actions d = EachAction (λ a d. IsTrue (action_finds s.classes d a)) s column actions d
+AllFind s column actions d = EachAction (λ a d. IsTrue (action_finds s.classes s.templates d a)) s column actions d
 
 -- the bindings, the cells, the changes and working memory are the same
 abbrev pub SeesTheSame : ActState → ActState → Type 0

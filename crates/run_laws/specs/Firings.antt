@@ -11,7 +11,7 @@ use Rattle.ops_io.specs.Output.{column_after}
 use Rattle.ops_meaning.specs.Acting.{Setting, ActState, actions_of}
 use Rattle.ops_meaning.specs.Acting as acting
 use Rattle.ops_meaning.specs.Layout.{firing_bytes}
-use Rattle.ops_meaning.specs.Running.{Course, Session, LastFiring, begun, command_done, fired_on, firing, given_by, in_force, is_exit, last_of, line_of_pause, next_to_fire, one_less}
+use Rattle.ops_meaning.specs.Running.{Course, Session, LastFiring, begun, command_done, firing, given_by, in_force, is_exit, last_of, line_of_pause, next_to_fire, one_less, turned_on}
 use Rattle.run_laws.specs.Beginning.{BeginsAsMatched}
 use Rattle.run_laws.specs.Elements.{AreWhole}
 use Rattle.run_laws.specs.Finding.{AllFind, EachAction}
@@ -22,15 +22,15 @@ IfGoesOn (Some line) next P = Unit {0}
 IfGoesOn None None P = Unit {0}
 IfGoesOn None (Some i) P = P i
 
--- P holds of each firing of a run from here on: of its setting, of the column at which it begins, of the instantiation
--- that fires, and of the point that the session has reached before it.
+-- P holds of each firing of a run from here on: of its setting with the productions in force, of the column at which it
+-- begins, of the instantiation that fires, and of the point that the session has reached before it.
 abbrev pub EachOfRun : (Setting → ℕ → Inst → Course → Type 0) → ℕ → Setting → ℕ → Option LastFiring → Option ℕ → Session → Type 0
 EachOfRun P zero s column last count k = Unit {0}
 EachOfRun P (suc left) s column last count k =
-    IfGoesOn (line_of_pause k.course.names s.rules k.breaks last count) (next_to_fire s.rules k.course)
-    (λ i. let e = firing s column i k.course in
-    P s column i k.course
-    × IfOk e.outcome (λ t. EachOfRun P left s (column_after column e.bytes) (last_of i t) (one_less count) (fired_on t.course k)))
+    IfGoesOn (line_of_pause k.course.names k.rules k.breaks last count) (next_to_fire k.rules k.course)
+    (λ i. let e = firing (in_force s k) column i k.course in
+    P (in_force s k) column i k.course
+    × IfOk e.outcome (λ t. EachOfRun P left s (column_after column e.bytes) (last_of k.rules i t) (one_less count) (turned_on t k)))
 
 -- P holds of each firing of a command. Only `run` has any.
 abbrev pub EachOfCommand : (Setting → ℕ → Inst → Course → Type 0) → Setting → ℕ → ℕ → Command → Session → Type 0

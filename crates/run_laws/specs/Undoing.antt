@@ -1,19 +1,27 @@
 -- Consecutive firings, and how `back` undoes them.
-use Rattle.std.specs.Prelude.{◌≡◌, ℕ, zero, suc, ◌-◌, length, take, option_map, Bool, true, false, Some, None, Ok}
+use Rattle.std.specs.Prelude.{◌≡◌, ℕ, zero, suc, [], ◌-◌, length, take, option_map, Bool, true, false, Some, None, Ok}
 use Rattle.ops_base.specs.declared.commands.Command.{Command}
 use Rattle.ops_base.specs.declared.commands.Command.TheVariants as command
 use Rattle.ops_base.specs.declared.rules.Inst.{Inst}
 use Rattle.ops_meaning.specs.Acting.{Setting}
-use Rattle.ops_meaning.specs.Running.{Session, Turned, fired_on, firing, next_to_fire}
+use Rattle.ops_meaning.specs.Running.{Session, Turned, fired_on, firing, in_force, next_to_fire, turned_on}
 
 -- This many consecutive firings lead from the one session to the other. Each is of the next instantiation, whatever the
--- column at which it begins.
+-- column at which it begins, and after it the productions that it built are added.
 abbrev pub FireTo : Setting → ℕ → Session → Session → Type 0
 FireTo s zero k done = k ≡ done
 FireTo s (suc n) k done =
     (column : ℕ) × (i : Inst) × (t : Turned)
-    × (next_to_fire s.rules k.course ≡ Some i) × ((firing s column i k.course).outcome ≡ Ok t)
-    × FireTo s n (fired_on t.course k) done
+    × (next_to_fire k.rules k.course ≡ Some i) × ((firing (in_force s k) column i k.course).outcome ≡ Ok t)
+    × FireTo s n (turned_on t k) done
+
+-- the same, of firings that build no production
+abbrev pub FireAlone : Setting → ℕ → Session → Session → Type 0
+FireAlone s zero k done = k ≡ done
+FireAlone s (suc n) k done =
+    (column : ℕ) × (i : Inst) × (t : Turned)
+    × (next_to_fire k.rules k.course ≡ Some i) × ((firing (in_force s k) column i k.course).outcome ≡ Ok t)
+    × (t.built ≡ []) × FireAlone s n (fired_on t.course k) done
 
 -- After firings and a `back` of the last n of them, working memory, the marks, the last tag and the names are as they
 -- were before these. The number of firings, the strategy, the input, the productions in force, the trace level and the

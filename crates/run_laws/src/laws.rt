@@ -4,6 +4,7 @@ ghost use Rattle.std.specs.List.{filter_map, list_all, list_any};
 ghost use Rattle.ops_base.specs.declared.actions.Action.{Action};
 ghost use Rattle.ops_base.specs.declared.actions.Term.{Term};
 ghost use Rattle.ops_base.specs.declared.commands.Command.{Command};
+ghost use Rattle.ops_base.specs.declared.commands.Command.TheVariants.{Add};
 ghost use Rattle.ops_base.specs.declared.commands.Fixed.{Fixed};
 ghost use Rattle.ops_base.specs.declared.conditions.Condition.{Condition};
 ghost use Rattle.ops_base.specs.declared.conditions.Part.{Part};
@@ -28,16 +29,17 @@ ghost use Rattle.ops_base.specs.WorkingMemory.{HasRisingTags, tags_of};
 ghost use Rattle.ops_io.specs.Coming.{Coming};
 ghost use Rattle.ops_meaning.specs.Acting.{Setting, Given, ActState, actions_of, action_done, actions_done, begun, evaluated, values_placed};
 ghost use Rattle.ops_meaning.specs.Effects.{told_as, writes};
+ghost use Rattle.ops_meaning.specs.Kept.{AreFilledFrom};
 ghost use Rattle.ops_meaning.specs.Layout.{inst_text, kept_line, lines_at, unknown_line};
 ghost use Rattle.ops_meaning.specs.Partials.{left_side, partial_tags};
-ghost use Rattle.ops_meaning.specs.Running.{Course, Session, added, command_done, commands_done, element_lines, ending_of, in_force, is_back, lists, meets, removals, rule_named, session_of, standing_by, states_kept, taken_out};
+ghost use Rattle.ops_meaning.specs.Running.{Course, Session, Turned, added, all_added, command_done, commands_done, element_lines, ending_of, fired_on, firing, has_break, in_force, is_back, lists, meets, place_after, removals, rule_named, session_of, standing_by, states_kept, taken_out, turned_on};
 ghost use Rattle.run_laws.specs.Beginning.{BeginsAsMatched};
 ghost use Rattle.run_laws.specs.Computing.{OperandsAre, QuotientsAre, SumsAre};
 ghost use Rattle.run_laws.specs.Predicates.{EqualityHolds, OrderHolds, KindHolds};
 ghost use Rattle.run_laws.specs.Cuts.{GoesOnWith};
 ghost use Rattle.run_laws.specs.Elements.{AreFieldsOf, AreWhole};
 ghost use Rattle.run_laws.specs.Ending.{IsOfSession};
-ghost use Rattle.run_laws.specs.Excising.{AreNamedApart, is_named, left_by, left_inst, left_number, names_told};
+ghost use Rattle.run_laws.specs.Excising.{AreNamedApart, has_name, is_named, left_by, left_inst, left_number, names_told};
 ghost use Rattle.run_laws.specs.Finding.{AllFind, EachAction, LeadTo, RemovalsFind, SeesTheSame, WalkFinds, command_finds, condition_finds, is_single, test_finds, tests_find};
 ghost use Rattle.run_laws.specs.Firings.{EachFiring, FindsAll};
 ghost use Rattle.run_laws.specs.Patterns.{condition_with, meeting};
@@ -46,7 +48,7 @@ ghost use Rattle.run_laws.specs.Programs.{AreValid};
 ghost use Rattle.run_laws.specs.Ranking.{HasRank, IsRanking};
 ghost use Rattle.run_laws.specs.Standing.{ranking_in, stands_in};
 ghost use Rattle.run_laws.specs.Telling.{AreTold, told_line};
-ghost use Rattle.run_laws.specs.Undoing.{FireTo, IsUndone, ends_the_trail, untrailed};
+ghost use Rattle.run_laws.specs.Undoing.{FireAlone, FireTo, IsUndone, ends_the_trail, untrailed};
 ghost use Rattle.why.specs.declared.explaining.BoundInst.{BoundInst};
 ghost use Rattle.why.specs.declared.explaining.Why.TheVariants.{Found};
 ghost use Rattle.why.specs.Bindings.{Binds};
@@ -69,7 +71,7 @@ pub fn left_sides_find_what_they_name()
 {}
 
 /// In a valid program, each action of a right side finds everything that it names in the state in which it is reached:
-/// variables, cells, classes and numbers of fields. A term leaves the bindings, the cells, the changes and working
+/// variables, cells, classes, numbers of fields and templates. A term leaves the bindings, the cells, the changes and working
 /// memory as they are. It gives exactly one value, unless it is all the values of a vector attribute.
 pub fn right_sides_find_what_they_name()
     ensures actions { (s : Setting) (commands : List Command) (column : ℕ) (g : Given) (i : Inst)
@@ -203,7 +205,8 @@ pub fn predicates_hold()
 /// exactly the instantiations of the other productions that stood before still stand, under the new numbers of their
 /// productions. If one is added under a name that no production has, its instantiations stand in addition to those that
 /// stood. If a production has its name, that one is removed first. In each case, the others stay in their order of
-/// dominance. The marks of a session are marks of productions in force.
+/// dominance. The marks of a session are marks of productions in force, also after a firing, and after each production
+/// that is added.
 pub fn others_stand_as_before()
     ensures taken { (n : ℕ) (k : Session) → stands_in (taken_out n k) ≡ moved_insts n (stands_in k) }
     ensures added { (r : Rule) (k : Session) → rule_named k.rules r.name ≡ None → AreOf k.rules k.course.fired
@@ -219,6 +222,9 @@ pub fn others_stand_as_before()
         → filter (λ i. not (i.rule == length (without n k.rules))) (ranking_in (added r k)) ≡ moved_insts n (ranking_in k) }
     ensures marks { (s : Setting) (limit : ℕ) (commands : List Command) (names : Spellings) (coming : Coming)
         → IfOk (session_of s limit commands names coming).outcome (λ k. AreOf k.rules k.course.fired) }
+    ensures marks_fired { (s : Setting) (column : ℕ) (i : Inst) (m : Course)
+        → IfOk (firing s column i m).outcome (λ t. AreOf s.rules t.course.fired) }
+    ensures marks_added { (r : Rule) (k : Session) → AreOf k.rules k.course.fired → AreOf (added r k).rules (added r k).course.fired }
 {}
 
 /// `excise` leaves exactly the productions that have none of its names, in their order, each with its break and its
@@ -249,6 +255,31 @@ pub fn partial_matches_are_listed()
         → HasRisingTags wm → rule < length rules → AreUpTo rules wm rule k (partial_tags wm (left_side rules rule) k) }
 {}
 
+/// After some commands of a valid program, what is in force and the commands still to come are a valid program. So the
+/// laws on valid programs hold of productions that were given late or built, too.
+pub fn programs_stay_valid()
+    ensures { (s : Setting) (limit : ℕ) (before after : List Command) (names : Spellings) (coming : Coming)
+        → AreValid s (before ++ after)
+        → IfOk (session_of s limit before names coming).outcome (λ k. AreValid (in_force s k) after) }
+{}
+
+/// What a firing builds is in force after it. Each production that it builds is a template with other constants in
+/// place of some of its own. They are added as late `p` commands would add them, one after another. The number that a
+/// run then keeps for the production that fired is that of the same production, with the same break. It keeps none
+/// exactly if one of that name was built.
+pub fn what_is_built_is_in_force()
+    ensures filled { (s : Setting) (column : ℕ) (i : Inst) (m : Course)
+        → IfOk (firing s column i m).outcome (λ t. AreFilledFrom s.templates t.built) }
+    ensures late { (s : Setting) (limit column : ℕ) (t : Turned) (k : Session)
+        → commands_done s limit column (map Add t.built) (fired_on t.course k) ≡ writes [] (turned_on t k) }
+    ensures place { (built : List Rule) (k : Session) (n m : ℕ)
+        → n < length k.rules → place_after k.rules built (Some n) ≡ Some m
+        → (slice_get (all_added built k).rules m ≡ slice_get k.rules n)
+        × (has_break (all_added built k).breaks m ≡ has_break k.breaks n) }
+    ensures gone { (built rules : List Rule) (name : Sym) (n : ℕ)
+        → rule_named rules name ≡ Some n → is_some (place_after rules built (Some n)) ≡ not (has_name built name) }
+{}
+
 /// The values that an instantiation binds are, one by one, the values of the fields that `--why` names before them.
 /// Each is from the element that the instantiation has at that place. So a line of `--why` omits none of them.
 pub fn bindings_are_told()
@@ -262,18 +293,25 @@ pub fn bindings_are_told()
         → rule_lines names classes rules rule (Found found) ≡ map (told_line names classes rules wm) (insts_in found) }
 {}
 
-/// `back` undoes firings. After up to 32 consecutive firings, it restores working memory, the marks, the last tag and
-/// the names as they were before, takes these firings off the trail, changes nothing else, and prints nothing. A run makes such firings. If fewer are
-/// kept, it changes nothing and prints how many are kept. `back` of some firings and then of others is `back` of all of
-/// them. After a `make`, a `remove` or a late `p` nothing before it can be undone. In a session without `back`, nothing
-/// depends on the trail.
+/// `back` undoes firings. After up to 32 consecutive firings that build no production, it restores working memory, the
+/// marks, the last tag and the names as they were before, takes these firings off the trail, changes nothing else, and
+/// prints nothing. A run makes consecutive firings, and without templates none of them builds. After a firing that builds a production, neither it nor anything
+/// before it can be undone, so the last firings that are kept built none. If fewer are kept, `back` changes nothing and
+/// prints how many are kept. `back` of some firings and then of others is `back` of all of them. After a `make`, a
+/// `remove` or a late `p`, nothing before it can be undone. In a session without `back`, nothing depends on the trail.
 pub fn back_undoes_firings()
     ensures undone { (s t : Setting) (limit column n : ℕ) (k fired : Session)
-        → is_some k.trail ≡ true → 1 ≤ n → n ≤ 32 → FireTo s n k fired
+        → is_some k.trail ≡ true → 1 ≤ n → n ≤ 32 → FireAlone s n k fired
         → (after : Session) × (command_done t limit column (Command.Back n) fired ≡ writes [] after) × IsUndone n k fired after }
     ensures runs { (s : Setting) (limit column : ℕ) (count : Option ℕ) (k : Session)
         → IfOk (command_done s limit column (Command.Run count) k).outcome
         (λ fired. (n : ℕ) × FireTo (record s { watch = k.watch }) n k fired × (fired.course.firings ≡ k.course.firings + n)) }
+    ensures built { (t : Turned) (k : Session) (r : Rule) (rest : List Rule) → t.built ≡ r ∷ rest → states_kept (turned_on t k) ≡ [] }
+    ensures alone { (s : Setting) (m n : ℕ) (k fired : Session)
+        → FireTo s (m + n) k fired → n ≤ length (states_kept fired)
+        → (middle : Session) × FireTo s m k middle × FireAlone s n middle fired }
+    ensures plain { (s : Setting) (n : ℕ) (k fired : Session)
+        → s.templates ≡ [] → FireTo s n k fired → FireAlone s n k fired }
     ensures few { (s : Setting) (limit column n : ℕ) (k : Session)
         → length (states_kept k) < n
         → command_done s limit column (Command.Back n) k ≡ lists column (kept_line (length (states_kept k)) ∷ []) k }

@@ -7,6 +7,7 @@ use Rattle.ops_base.specs.declared.commands.Command.{Command}
 use Rattle.ops_base.specs.declared.elements.Class.{Class}
 use Rattle.ops_base.specs.declared.endings.Ending.{Ending}
 use Rattle.ops_base.specs.declared.programs.Program.{Program}
+use Rattle.ops_base.specs.declared.rules.Inst.{Inst}
 use Rattle.ops_base.specs.declared.rules.Rule.{Rule}
 use Rattle.ops_base.specs.declared.values.Sym.{Sym}
 use Rattle.ops_base.specs.Live.{without}
@@ -22,6 +23,7 @@ use Rattle.cycle.specs.States.{no_input}
 use Rattle.live_rules.specs.Moves.{IsWith}
 use Rattle.work_store.specs.Stored.{Stored}
 use Rattle.session.specs.Trailing.{DoesWith, meant_with}
+use Rattle.session.specs.Turning.{turn_fired}
 use Rattle.session.specs.declared.undoable.Undoable.{Undoable}
 use Rattle.session.proofs.Changing.{taken_rules}
 
@@ -71,36 +73,48 @@ module _ {M H : Type 0} (stored : M → Stored) (stands_for : M → List Rule �
       ap (λ (m : Meant). program_asks m.rules) (is n no_input) ∙ none_with rule_asks (taken_out_named r.name k).rules r (asks_taken r.name k h) quiet
 
   -- some are taken out
-  pub excised_quiet : (X : Type 0) (names : Spellings) (given : List Sym) (r : Result (Undoable M H) Ending) (a b : Port) → DoesWith stored stands_for old.rules new.rules names s r a b (excised a.out.column given) → OnOk r (program_asks old.rules ≡ false → X → program_asks new.rules ≡ false)
-  excised_quiet X names given (Ok t) a b p = λ h x.
+  pub excised_quiet : (X Y : Type 0) (names : Spellings) (given : List Sym) (r : Result (Undoable M H) Ending) (a b : Port) → DoesWith stored stands_for old.rules new.rules names s r a b (excised a.out.column given) → OnOk r (program_asks old.rules ≡ false → X → Y → program_asks new.rules ≡ false)
+  excised_quiet X Y names given (Ok t) a b p = λ h x y.
       let k = meant_with stored old.rules s names no_input in
       ap program_asks (sym (ap rules_of (p.performs no_input).0)) ∙ asks_all given k h
     where
       rules_of : Result Meant Ending → List Rule
       rules_of (Ok m) = m.rules
       rules_of (Err e) = []
-  excised_quiet X names given (Err f) a b p = tt
+  excised_quiet X Y names given (Err f) a b p = tt
 
 -- ---- a session
 
 -- the first command, and those after it
-pub quiet_on : (rules : List Rule) (x : Command) (rest : List Command) → session_asks rules (x ∷ rest) ≡ false → (program_asks rules ≡ false) × (command_asks x ≡ false) × (list_any command_asks rest ≡ false)
-quiet_on rules x rest h =
-    let parts = neither (program_asks rules) (list_any command_asks (x ∷ rest)) h in
+pub quiet_on : (rules templates : List Rule) (x : Command) (rest : List Command) → session_asks rules templates (x ∷ rest) ≡ false
+    → (program_asks rules ≡ false) × (program_asks templates ≡ false) × (command_asks x ≡ false) × (list_any command_asks rest ≡ false)
+quiet_on rules templates x rest h =
+    let parts = neither (program_asks rules || program_asks templates) (list_any command_asks (x ∷ rest)) h in
+    let two = neither (program_asks rules) (program_asks templates) parts.0 in
     let more = neither (command_asks x) (list_any command_asks rest) parts.1 in
-    (parts.0, more.0, more.1)
+    (two.0, two.1, more.0, more.1)
 
-pub quiet_with : (rules : List Rule) (rest : List Command) → program_asks rules ≡ false → list_any command_asks rest ≡ false → session_asks rules rest ≡ false
-quiet_with rules rest h k = nor (program_asks rules) (list_any command_asks rest) h k
+pub quiet_with : (rules templates : List Rule) (rest : List Command) → program_asks rules ≡ false → program_asks templates ≡ false → list_any command_asks rest ≡ false → session_asks rules templates rest ≡ false
+quiet_with rules templates rest h t k = nor (program_asks rules || program_asks templates) (list_any command_asks rest) (nor (program_asks rules) (program_asks templates) h t) k
 
 -- ---- the program in force
 
 module _ (first now : Program) (commands : List Command) (w : IsWith now.rules commands first now) where
   -- what a right side sees of it
+  pub setting_at : (watch : ℕ) (k : Meant) → k.rules ≡ now.rules → setting_of now watch ≡ in_force (setting_of first watch) k
+  setting_at watch k is =
+      let by : List Class → List Rule → List ℕ → List Rule → Setting = λ cs ts t rs. record { classes = cs; rules = rs; templates = ts; text = t; watch = watch } in
+      ap (λ cs. by cs now.templates now.text now.rules) w.classes ∙ ap (λ ts. by first.classes ts now.text now.rules) w.templates
+      ∙ ap (λ t. by first.classes first.templates t now.rules) w.text ∙ ap (by first.classes first.templates first.text) (sym is)
+
   pub setting_is : (k : Meant) → k.rules ≡ now.rules → setting_of now 0 ≡ in_force (setting_of first 0) k
-  setting_is k is =
-      let by : List Class → List ℕ → List Rule → Setting = λ cs t rs. record { classes = cs; rules = rs; text = t; watch = 0 } in
-      ap (λ cs. by cs now.text now.rules) w.classes ∙ ap (λ t. by first.classes t now.rules) w.text ∙ ap (by first.classes first.text) (sym is)
+  setting_is k is = setting_at 0 k is
+
+  -- so a turn is the same by both
+  pub turn_here : (watch at : ℕ) → at ≡ watch → (column : ℕ) (i : Inst) (k : Coming → Meant) → ((z : Coming) → (k z).rules ≡ now.rules) → (z : Coming) → turn_fired (setting_of now at) column i (k z) ≡ turn_fired (setting_of first watch) column i (k z)
+  turn_here watch at same column i k are z =
+      ap (λ n. turn_fired (setting_of now n) column i (k z)) same
+      ∙ ap (λ t. turn_fired t column i (k z)) (setting_at watch (k z) (are z))
 
   -- the commands after the first one stay valid
   pub rest_valid : (x : Command) (rest : List Command) → IsTrue (list_all (command_is_valid first.classes (length first.text)) (x ∷ rest)) → IsTrue (list_all (command_is_valid now.classes (length now.text)) rest)

@@ -14,7 +14,7 @@ use Rattle.ops_io.specs.Output.{column_after}
 use Rattle.ops_meaning.specs.Acting.{Setting, Misdeed, Bad, NoInput, acted}
 use Rattle.ops_meaning.specs.Effects.{Effect, writes, and_then, going_on, outcome_as}
 use Rattle.ops_meaning.specs.Layout.{firing_bytes, rule_name}
-use Rattle.ops_meaning.specs.Running.{Course, Session, LastFiring, begun, turn, line_of_pause, last_of, one_less, given_by, ended_in, turned_of, firing, run_on, next_to_fire, command_done, commands_done, session_of, in_force, is_exit, strategy_given, level_given, breaks_given, back_given, fired_on}
+use Rattle.ops_meaning.specs.Running.{Course, Session, LastFiring, begun, turn, line_of_pause, last_of, one_less, given_by, ended_in, turned_of, firing, run_on, next_to_fire, command_done, commands_done, session_of, in_force, is_exit, strategy_given, level_given, breaks_given, back_given, turned_on}
 use Rattle.ops_meaning.proofs.Trails.{back_leaves}
 
 -- an ending of a session whose commands are not all done
@@ -51,12 +51,12 @@ firing_early s column i m =
 
 run_early : (left : ℕ) (s : Setting) (column : ℕ) (last : Option LastFiring) (count : Option ℕ) (k : Session) → EndsEarly (run_on left s column last count k).outcome
 run_early zero s column last count k =
-    turn_early column (line_of_pause k.course.names s.rules k.breaks last count) k (next_to_fire s.rules k.course) _ (λ i. tt)
+    turn_early column (line_of_pause k.course.names k.rules k.breaks last count) k (next_to_fire k.rules k.course) _ (λ i. tt)
 run_early (suc left) s column last count k =
-    turn_early column (line_of_pause k.course.names s.rules k.breaks last count) k (next_to_fire s.rules k.course) _
-    (λ i. let e = firing s column i k.course in
-    then_early e.bytes e.outcome (λ t. run_on left s (column_after column e.bytes) (last_of i t) (one_less count) (fired_on t.course k)) (firing_early s column i k.course)
-    (λ t. run_early left s (column_after column e.bytes) (last_of i t) (one_less count) (fired_on t.course k)))
+    turn_early column (line_of_pause k.course.names k.rules k.breaks last count) k (next_to_fire k.rules k.course) _
+    (λ i. let e = firing (in_force s k) column i k.course in
+    then_early e.bytes e.outcome (λ t. run_on left s (column_after column e.bytes) (last_of k.rules i t) (one_less count) (turned_on t k)) (firing_early (in_force s k) column i k.course)
+    (λ t. run_early left s (column_after column e.bytes) (last_of k.rules i t) (one_less count) (turned_on t k)))
 
 -- what is told and what comes back are no ends
 back_early : (column count : ℕ) (k : Session) → EndsEarly (back_given column count k).outcome

@@ -31,3 +31,4 @@ pub mod Following
 pub mod Changing
 pub mod Asks
 pub mod Explained
+pub mod BuiltLemmas

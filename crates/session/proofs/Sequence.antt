@@ -89,9 +89,10 @@ session_is s limit column commands names k zero is z =
 pub session_taken : (old now : Program) (limit column : ℕ) (commands : List Command) (names : Spellings) (k : Coming → Meant) → IsWith old.rules [] old now → commands ≡ old.commands → column ≡ 0 → ((z : Coming) → k z ≡ begun commands now.rules names z)
     → (z : Coming) → commands_done (setting_of now 0) limit column commands (k z) ≡ session_of (setting_of old 0) limit old.commands names z
 session_taken old now limit column commands names k w all zero is z =
-    let by : List Class → List ℕ → List Rule → Setting = λ cs t rs. record { classes = cs; rules = rs; text = t; watch = 0 } in
+    let by : List Class → List Rule → List ℕ → List Rule → Setting = λ cs ts t rs. record { classes = cs; rules = rs; templates = ts; text = t; watch = 0 } in
     ap (λ s. commands_done s limit column commands (k z))
-    (ap (λ cs. by cs now.text now.rules) w.classes ∙ ap (λ t. by old.classes t now.rules) w.text ∙ ap (by old.classes old.text) w.rules_are)
+    (ap (λ cs. by cs now.templates now.text now.rules) w.classes ∙ ap (λ ts. by old.classes ts now.text now.rules) w.templates ∙ ap (λ t. by old.classes old.templates t now.rules) w.text
+    ∙ ap (by old.classes old.templates old.text) w.rules_are)
     ∙ ap (λ cs. commands_done (setting_of old 0) limit column cs (k z)) all
     ∙ session_is (setting_of old 0) limit column old.commands names k zero (λ z. is z ∙ ap (λ rs. begun commands rs names z) w.rules_are ∙ ap (λ cs. begun cs old.rules names z) all) z
 

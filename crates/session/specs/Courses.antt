@@ -95,14 +95,14 @@ IsReadyFor (command.Excise names) s = Unit {0}
 IsReadyFor (command.Back count) s = Unit {0}
 IsReadyFor command.Exit s = Unit {0}
 
--- it adds productions to those in force, or removes some
+-- it adds productions to those in force, or removes some, or does so by its firings
 abbrev pub changes_productions : Command → Bool
 changes_productions (command.Add r) = true
 changes_productions (command.Excise names) = true
 changes_productions (command.Make class puts) = false
 changes_productions (command.Remove tags) = false
 changes_productions command.RemoveAll = false
-changes_productions (command.Run count) = false
+changes_productions (command.Run count) = true
 changes_productions (command.Wm tags) = false
 changes_productions (command.Ppwm pattern) = false
 changes_productions command.Cs = false

@@ -6,3 +6,4 @@ pub mod Holding
 pub mod Pauses
 pub mod Traces
 pub mod Trailing
+pub mod Turning

@@ -9,6 +9,7 @@
 #![tactic(auto)]
 
 mod bounds;
+mod built;
 mod changes;
 mod commands;
 mod context;

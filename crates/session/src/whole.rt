@@ -109,7 +109,7 @@ fn do_all<
         (λ c. explained_if context.now.is_explained live.old.program.classes (session_of (setting_of live.old.program 0) context.now.limit live.old.program.commands names.old c)) }
     ensures reads { CountsReads (ends_unread result) (I.faults source.old) (I.faults source.new) }
     ensures written { ends_unread result ≡ true → out.new.held ≡ [] }
-    ensures untouched { session_asks live.old.program.rules live.old.program.commands ≡ false → (input.new ≡ input.old) × (source.new ≡ source.old) }
+    ensures untouched { session_asks live.old.program.rules live.old.program.templates live.old.program.commands ≡ false → (input.new ≡ input.old) × (source.new ≡ source.old) }
     ensures names { KeepsNames names.old names.new }
     ensures none_waits { IfOk result (λ u. u.session.pending ≡ []) }
     ensures flushed { out.old.held ≡ [] → OnOk result (out.new.held ≡ []) }
@@ -159,7 +159,7 @@ pub fn run_session<
     ensures written { result ≡ Ok Ending.ReadFault → out.new.held ≡ [] }
 
     // Where no `accept` stands in the program, the input is left as it was.
-    ensures untouched { session_asks live.old.program.rules live.old.program.commands ≡ false → (input.new ≡ input.old) × (source.new ≡ source.old) }
+    ensures untouched { session_asks live.old.program.rules live.old.program.templates live.old.program.commands ≡ false → (input.new ≡ input.old) × (source.new ≡ source.old) }
     ensures flushed { out.old.held ≡ [] → (firings elements last_tag : ℕ)
         → result ≡ Ok (Ending.Done firings elements last_tag) → out.new.held ≡ [] }
     ensures names { KeepsNames names.old names.new }

@@ -4,6 +4,8 @@
 #[cfg(test)]
 mod back_rows;
 #[cfg(test)]
+mod build_rows;
+#[cfg(test)]
 mod devices;
 #[cfg(test)]
 mod gates;

@@ -6,8 +6,8 @@ use Rattle.act_phase.specs.Deeds.{scene}
 use Rattle.act_phase.specs.Outcomes.{setting_of, acted_of, is_read}
 use Rattle.act_phase.specs.declared.outcome.Acted.{Acted}
 use Rattle.act_phase.proofs.Deeds.{handed_on}
-use Rattle.act_phase.proofs.Held.{holds_program, holds_elements, rules_of_program}
-use Rattle.act_phase.proofs.Steps.{whole_held, well_kept, whole_short, whole_ok, whole_err, whole_lawful}
+use Rattle.act_phase.proofs.Held.{holds_program, holds_elements, rules_of_program, templates_of_program}
+use Rattle.act_phase.proofs.Steps.{whole_built, whole_held, well_kept, whole_short, whole_ok, whole_err, whole_lawful}
 use Rattle.act_phase.proofs.right_side.act.Goals as goal
 
 pub returns-in_err-doing : goal.returns-in_err-doing
@@ -22,6 +22,7 @@ returns-in_err-doing g c =
       written = handed_on is_read c.from_residual.result _ c.from_residual.ensures.1 (λ is. absurd (cc));
       untouched = λ _. (refl, refl);
       names = p.names;
+      built = search rules;
       held = λ h e. (h, e, search rules);
     }
 
@@ -39,6 +40,7 @@ returns-in_err-act_all g c =
       written = handed_on is_read c.from_residual-in_err-act_all.result _ c.from_residual-in_err-act_all.ensures.1 c.in_err-act_all.ensures.written;
       untouched = λ none. c.in_err-act_all.ensures.untouched (ap (list_any action_asks) c.actions_of-actions.ensures ∙ none);
       names = p.names;
+      built = search rules;
       held = λ h e. (holds_program c.args.names.now c.act_all.new.names c.args.program.now p.names h, holds_elements c.args.names.now c.act_all.new.names c.args.store.now.elements p.names e, search rules);
     }
 
@@ -58,5 +60,6 @@ returns g c =
       written = search rules;
       untouched = λ none. c.in_ok-act_all.ensures.untouched (ap (list_any action_asks) c.actions_of-actions.ensures ∙ none);
       names = p.names;
-      held = λ h e. (holds_program c.args.names.now c.act_all.new.names c.args.program.now p.names h, holds_elements c.args.names.now c.act_all.new.names c.args.store.now.elements p.names e, whole_held (setting_of c.args.program.now c.args.watch) c.args.inst.now c.args.store.now.elements (c.args.next_tag - 1) old c.finish.result p h.nil (rules_of_program _ c.args.program.now h.symbols) e);
+      built = whole_built (setting_of c.args.program.now c.args.watch) c.args.inst.now c.args.store.now.elements (c.args.next_tag - 1) old c.finish.result p;
+      held = λ h e. (holds_program c.args.names.now c.act_all.new.names c.args.program.now p.names h, holds_elements c.args.names.now c.act_all.new.names c.args.store.now.elements p.names e, whole_held (setting_of c.args.program.now c.args.watch) c.args.inst.now c.args.store.now.elements (c.args.next_tag - 1) old c.finish.result p h.nil (rules_of_program _ c.args.program.now h.symbols) (templates_of_program _ c.args.program.now h.symbols) e);
     }

@@ -40,10 +40,14 @@ returns-in-Halt-clause-does g c =
     action_quiet _ c.args.doing.now.setting c.args.action.now action.Halt c.args.doing.now c.halt.new.self _ c.requires.whole c.in-Halt.is
     (λ names d. ap (λ s. writes [] (doing_of s names d)) (sym c.halt.ensures))
 
-pub returns-in-Build-clause-does : goal.returns-in-Build-clause-does
-returns-in-Build-clause-does g c =
-    action_quiet _ c.args.doing.now.setting c.args.action.now (action.Build c.in-Build.template c.in-Build.holes) c.args.doing.now c.args.doing.now _ c.requires.whole c.in-Build.is
-    (λ names d. refl)
+pub returns-in_err-build-in-Build-clause-does : goal.returns-in_err-build-in-Build-clause-does
+returns-in_err-build-in-Build-clause-does g c = still_short _ mishap.OutOfMemory c.from_residual-in_err-build-in-Build.ensures.1 refl refl (still_all _ _ c.requires.whole)
+
+pub returns-in_ok-build-in-Build-clause-does : goal.returns-in_ok-build-in-Build-clause-does
+returns-in_ok-build-in-Build-clause-does g c =
+    let is = c.in-Build.is ∙ ap (action.Build c.in-Build.template) (sym c.as_slice-in-Build.ensures) in
+    action_quiet _ c.args.doing.now.setting c.args.action.now (action.Build c.in-Build.template c.as_slice-in-Build.result.now) c.args.doing.now c.build.new.self _ c.requires.whole is
+    (λ names d. ap (λ s. writes [] s) (sym (c.in_ok-build-in-Build.ensures.does names d)))
 
 pub returns-in-Make : goal.returns-in-Make
 returns-in-Make g c =

@@ -41,7 +41,7 @@ returns-in-Ok-clause-derived c =
 pub returns-in-Ok-clause-again : goal.returns-in-Ok-clause-again
 returns-in-Ok-clause-again c =
     let parts = c.program_of.ensures in
-    rw (parts.classes, parts.rules, parts.commands)
+    rw (parts.classes, parts.rules, parts.templates, parts.commands)
     (reads-again c.args.text.items (read_of c.in-Ok.draft c.in-Ok.names) (ap reads (sym c.as_slice.ensures.value) ∙ c.in-Ok.ensures))
 
 pub returns-in-Ok-clause-named : goal.returns-in-Ok-clause-named

@@ -1,5 +1,6 @@
-use Rattle.std.proofs.Common.{◌-◌, ◌∙◌, sym, subst, refl, length, List, arith}
+use Rattle.std.proofs.Common.{◌-◌, ◌∙◌, sym, subst, refl, length, List, [], arith}
 use Rattle.ops_base.specs.declared.conditions.Part.{Part}
+use Rattle.ops_grammar.specs.declared.words.Named.{Named}
 use Rattle.ops_grammar.specs.declared.words.Word.{Word}
 use Rattle.ops_forms.specs.declared.scope.Scope.{Scope}
 use Rattle.ops_forms.specs.PlaceWalks.{words_of_scope}
@@ -34,7 +35,8 @@ returns-in-Ok-clause-ok c =
     let place = length tokens - length rest - 1 in
     let made = c.as_slice-2.ensures.value ∙ c.in_ok-words.ensures.words ∙ words_made scope tokens from c.as_slice.result.now c.as_slice.ensures.value in
     let behind = subst (λ (ws : List Word). AreBehindArrow ws rest) made c.in-Ok.ensures.behind in
-    let reads = subst (λ (ws : List Word). ReadsLeft scope.classes ws rest side.conditions.items side.values side.elements side.variables) made c.in-Ok.ensures.ok in
+    let outermost = subst (λ (xs : List Named). ReadsLeft scope.classes xs c.as_slice-2.result.now rest side.conditions.items side.values side.elements side.variables side.counted side.holes.items) c.new-none.ensures c.in-Ok.ensures.ok in
+    let reads = subst (λ (ws : List Word). ReadsLeft scope.classes [] ws rest side.conditions.items side.values side.elements side.variables side.counted side.holes.items) made outermost in
     let names = c.in_ok-words.ensures.names ∙ names_made scope tokens from c.as_slice.result.now c.as_slice.ensures.value in
     subst (λ (cs : List Part). IsLeftSide scope c.show.new.scope tokens from cs place) (sym c.in_ok-conditions-in-Ok.ensures.conditions)
     (subst (λ (new : Scope). IsLeftSide scope new tokens from side.conditions.items place) (sym c.in_ok-conditions-in-Ok.ensures.ok)
@@ -46,5 +48,6 @@ returns-clause-err c =
     let tokens = c.args.tokens.now in
     let from = c.args.from in
     let made = c.as_slice-2.ensures.value ∙ c.in_ok-words.ensures.words ∙ words_made scope tokens from c.as_slice.result.now c.as_slice.ensures.value in
-    let refuses = subst (λ (ws : List Word). RefusesLeft scope.classes ws c.in-Err.refusal) made c.in-Err.ensures.err in
+    let outermost = subst (λ (xs : List Named). RefusesLeft scope.classes xs c.as_slice-2.result.now c.in-Err.refusal) c.new-none.ensures c.in-Err.ensures.err in
+    let refuses = subst (λ (ws : List Word). RefusesLeft scope.classes [] ws c.in-Err.refusal) made outermost in
     subst (IsRefused scope tokens from) (sym c.fault_of.ensures) (refused_is scope tokens from c.in-Err.refusal refuses)

@@ -34,8 +34,8 @@ returns-in-Ok-clause-ok c =
     let place = length tokens - length rest - 1 in
     let made = c.as_slice-2.ensures.value ∙ c.in_ok-words.ensures.words ∙ words_made scope tokens from c.as_slice.result.now c.as_slice.ensures.value in
     let names = c.in_ok-words.ensures.names ∙ names_made scope tokens from c.as_slice.result.now c.as_slice.ensures.value in
-    let after : c.put_sight.new.scope ≡ record scope { names = c.words_of.new.names; values = side.sight.values; elements = side.sight.elements; cells = side.sight.cells; conditions = side.sight.conditions; variables = side.sight.variables } =
-    c.put_sight.ensures ∙ ap (λ (x : Scope). record x { values = side.sight.values; elements = side.sight.elements; cells = side.sight.cells; conditions = side.sight.conditions; variables = side.sight.variables }) c.take_sight-sight.ensures.scope in
+    let after : c.put_sight.new.scope ≡ record scope { names = c.words_of.new.names; values = side.sight.values; elements = side.sight.elements; cells = side.sight.cells; conditions = side.sight.conditions; variables = side.sight.variables; counted = side.sight.counted; holes = side.sight.holes; templates = side.sight.templates } =
+    c.put_sight.ensures ∙ ap (λ (x : Scope). record x { values = side.sight.values; elements = side.sight.elements; cells = side.sight.cells; conditions = side.sight.conditions; variables = side.sight.variables; counted = side.sight.counted; holes = side.sight.holes; templates = side.sight.templates }) c.take_sight-sight.ensures.scope in
     let declared = ap (λ (x : Scope). x.classes) c.take_sight-sight.ensures.scope in
     let by_words = subst (λ (ws : List Word). ReadsRight c.take_sight-sight.new.scope.classes c.take_sight-sight.result ws rest side.actions.items side.sight) made c.in-Ok.ensures.ok in
     let by_sight = subst (λ (x : Sight). ReadsRight c.take_sight-sight.new.scope.classes x (words_of_scope scope tokens from) rest side.actions.items side.sight) c.take_sight-sight.ensures.sight by_words in

@@ -9,7 +9,7 @@ use Rattle.ops_top.proofs.jobs.run_job.Goals as goal
 pub returns-in-Some-clause-runs : goal.returns-in-Some-clause-runs
 returns-in-Some-clause-runs g c =
     let text = c.in-Ok.program.text in
-    let read : Read = record { classes = c.in-Ok.program.classes; rules = c.in-Ok.program.rules; commands = c.in-Ok.program.commands; names = c.in-Ok.names } in
+    let read : Read = record { classes = c.in-Ok.program.classes; rules = c.in-Ok.program.rules; templates = c.in-Ok.program.templates; commands = c.in-Ok.program.commands; names = c.in-Ok.names } in
     let plan = c.in-Some.plan in
     program_run c.args.job.now c.answer_program.result _ _ _ _ _ _ text read (λ z. session_told conflict_set plan.is_explained plan.is_summed plan.options.limit z text read) c.in-Ok.ensures.text c.in-Ok.ensures.read
     (λ z. plan_replies c.args.job.now plan c.in-Some.ensures.plan z text read) (plan_runs c.args.job.now plan _ c.in-Some.ensures.plan) c.in-Ok.ensures.cause c.in-Ok.ensures.names c.answer_program.ensures
@@ -17,7 +17,7 @@ returns-in-Some-clause-runs g c =
 pub returns-in-None-clause-runs : goal.returns-in-None-clause-runs
 returns-in-None-clause-runs g c =
     let text = c.in-Ok.program.text in
-    let read : Read = record { classes = c.in-Ok.program.classes; rules = c.in-Ok.program.rules; commands = c.in-Ok.program.commands; names = c.in-Ok.names } in
+    let read : Read = record { classes = c.in-Ok.program.classes; rules = c.in-Ok.program.rules; templates = c.in-Ok.program.templates; commands = c.in-Ok.program.commands; names = c.in-Ok.names } in
     let none = c.in-None.ensures.none refl in
     program_run c.args.job.now c.say_network.result _ _ _ _ _ _ text read (λ z. net_told read.rules) c.in-Ok.ensures.text c.in-Ok.ensures.read
     (λ z. net_replies c.args.job.now none z text read) (λ is. refl) c.in-Ok.ensures.cause c.in-Ok.ensures.names (answered_alone c.say_network.result _ _ _ _ _ _ _ _ _ refl c.say_network.ensures.delivers refl)

@@ -1,4 +1,4 @@
-use Rattle.read_laws.proofs.Computed.{actions, terms, operations, items}
+use Rattle.read_laws.proofs.Computed.{actions, terms, operations, items, builds}
 use Rattle.read_laws.proofs.laws.right_sides_mean.Goals as goal
 
 pub returns-clause-actions : goal.returns-clause-actions
@@ -12,3 +12,6 @@ returns-clause-operations c = operations
 
 pub returns-clause-items : goal.returns-clause-items
 returns-clause-items c = items
+
+pub returns-clause-builds : goal.returns-clause-builds
+returns-clause-builds c = builds

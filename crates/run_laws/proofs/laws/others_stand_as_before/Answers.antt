@@ -2,7 +2,7 @@ use Rattle.std.proofs.Common.{◌++◌, ◌∷◌, [], false, ap, ◌∙◌}
 use Rattle.std.specs.Prelude.{option_map, unwrap_or}
 use Rattle.ops_meaning.specs.Running.{taken_out, trail_emptied}
 use Rattle.run_laws.specs.Standing.{stands_in}
-use Rattle.run_laws.proofs.Marks.{session_marked}
+use Rattle.run_laws.proofs.Marks.{added_marked, firing_marked, session_marked}
 use Rattle.run_laws.proofs.Orders.{added_order, replaced, replaced_order, taken_order}
 use Rattle.run_laws.proofs.Standings.{stands_with, stands_without}
 use Rattle.run_laws.proofs.laws.others_stand_as_before.Goals as goal
@@ -29,3 +29,9 @@ returns-clause-replaced_order c = replaced_order
 
 pub returns-clause-marks : goal.returns-clause-marks
 returns-clause-marks c = session_marked
+
+pub returns-clause-marks_fired : goal.returns-clause-marks_fired
+returns-clause-marks_fired c = firing_marked
+
+pub returns-clause-marks_added : goal.returns-clause-marks_added
+returns-clause-marks_added c = added_marked

@@ -25,7 +25,7 @@ returns-in_ok-add_late-in-Add-clause-performs g c =
     ∙ ap (λ (m : Meant). let e : Effect Ending Meant = writes [] m in e) (sym (c.in_ok-add_late-in-Add.ensures.meant c.args.names.now z)))
 
 pub returns-in_ok-add_late-in-Add-clause-quiet : goal.returns-in_ok-add_late-in-Add-clause-quiet
-returns-in_ok-add_late-in-Add-clause-quiet g c = λ none quiet.
+returns-in_ok-add_late-in-Add-clause-quiet g c = λ none built quiet.
     added_quiet g.B.M.Matcher.stored g.B.M.Matcher.stands_for c.args.live.now.program c.add_late.new.live.program c.args.undoable c.in-Add.rule c.in_ok-add_late-in-Add.field-0 c.in_ok-add_late-in-Add.ensures.meant c.args.names.now none
     (sym (ap command_asks c.in-Add.is) ∙ quiet)
 
@@ -39,10 +39,14 @@ returns-in-Excise-clause-performs g c =
 
 pub returns-in-Excise-clause-quiet : goal.returns-in-Excise-clause-quiet
 returns-in-Excise-clause-quiet g c =
-    excised_quiet g.B.M.Matcher.stored g.B.M.Matcher.stands_for c.args.live.now.program c.excise_late.new.live.program c.args.undoable _ c.args.names.now _ c.excise_late.result _ _ c.excise_late.ensures.does
+    excised_quiet g.B.M.Matcher.stored g.B.M.Matcher.stands_for c.args.live.now.program c.excise_late.new.live.program c.args.undoable _ _ c.args.names.now _ c.excise_late.result _ _ c.excise_late.ensures.does
 
 pub returns-in-Excise-clause-named : goal.returns-in-Excise-clause-named
 returns-in-Excise-clause-named g c = named_above c.args.names.now c.args.undoable.trail c.excise_late.result c.excise_late.ensures.does.named
 
+pub returns-in-Run-clause-performs : goal.returns-in-Run-clause-performs
+returns-in-Run-clause-performs g c = rw c.in-Run.is c.run_from.ensures.performs
+
 pub returns-in_default-clause-performs : goal.returns-in_default-clause-performs
-returns-in_default-clause-performs g c = c.do_unchanging-done.ensures.performs
+returns-in_default-clause-performs g c =
+    performs_apart _ of_ending c.do_unchanging-done.result _ _ _ _ (λ z. c.do_unchanging-done.ensures.performs z)

@@ -11,7 +11,7 @@ use Rattle.ops_io.specs.Output.{OutState}
 use Rattle.ops_io.proofs.PortLemmas.{flushed_put}
 use Rattle.ops_meaning.specs.Effects.{of_ending}
 use Rattle.ops_meaning.specs.Running.{Session as Meant}
-use Rattle.act_phase.specs.Asking.{session_asks}
+use Rattle.act_phase.specs.Asking.{program_asks, session_asks}
 use Rattle.act_phase.specs.Outcomes.{setting_of}
 use Rattle.act_phase.proofs.Asking.{both_then}
 use Rattle.session.specs.Trailing.{meant_with}
@@ -32,7 +32,7 @@ loop-command-init g c =
       whole = c.requires.whole;
       faults = refl;
       untouched = λ _. (refl, refl);
-      quiet = λ h. ap (session_asks p.rules) gives.0 ∙ h;
+      quiet = λ h. ap (session_asks p.rules p.templates) gives.0 ∙ h;
       undoable = c.requires.undoable;
       named = λ least some h. h;
       names = λ first some keeps h. keeps;
@@ -81,15 +81,17 @@ loop-command-preserved g c =
     (sym c.is_exit.ensures ∙ c.if-is_exit.false) (setting_of at.live.program 0) (λ z. setting_is c.args.live.now.program at.live.program c.args.live.now.program.commands at.invariant.program (come z) refl)
     c.in_ok-undoable.undoable c.in_ok-undoable.ensures.reads (performs_still c.in_ok-undoable.ensures.performs (flushed_put _ _ whole written)) in
     let put = pending_put _ _ _ _ _ _ out in
-    let quiet = λ (h : session_asks c.args.live.now.program.rules c.args.commands.items ≡ false). quiet_on at.live.program.rules c.in-Some.command (into_iter_items c.next.new.self) (sym (ap (session_asks at.live.program.rules) steps) ∙ at.invariant.quiet h) in
+    let quiet = λ (h : session_asks c.args.live.now.program.rules c.args.live.now.program.templates c.args.commands.items ≡ false). quiet_on at.live.program.rules at.live.program.templates c.in-Some.command (into_iter_items c.next.new.self) (sym (ap (session_asks at.live.program.rules at.live.program.templates) steps) ∙ at.invariant.quiet h) in
+    let done = c.in_ok-undoable.ensures.program in
     let V : List Command → Type 0 = λ cs. IsTrue (list_all (command_is_valid at.live.program.classes (length at.live.program.text)) cs) in
     let B : List Command → Type 0 = λ cs. IsTrue (list_all (command_builds_from (length at.live.program.templates)) cs) in
     record {
       out = out;
       whole = put.1.whole;
       faults = put.1.faults;
-      untouched = λ h. both_then (at.invariant.untouched h) (c.in_ok-undoable.ensures.untouched (quiet h).0);
-      quiet = λ h. quiet_with c.do_command.new.live.program.rules (into_iter_items c.next.new.self) (c.in_ok-undoable.ensures.quiet (quiet h).0 (quiet h).1) (quiet h).2;
+      untouched = λ h. both_then (at.invariant.untouched h) (c.in_ok-undoable.ensures.untouched (quiet h).0 (quiet h).1);
+      quiet = λ h. quiet_with c.do_command.new.live.program.rules c.do_command.new.live.program.templates (into_iter_items c.next.new.self) (c.in_ok-undoable.ensures.quiet (quiet h).0 (quiet h).1 (quiet h).2)
+          (ap program_asks done.templates ∙ (quiet h).1) (quiet h).3;
       undoable = c.in_ok-undoable.ensures.undoable;
       named = λ least some h. c.in_ok-undoable.ensures.named least some (at.invariant.named least some h);
       names = λ first some keeps h. c.in_ok-undoable.ensures.names first (at.invariant.names first some keeps h) (at.invariant.named (length first.held) some h);
@@ -136,5 +138,5 @@ pub returns-in_err-flush-clause-untouched : goal.returns-in_err-flush-clause-unt
 returns-in_err-flush-clause-untouched g c = λ h.
     let at = c.loop-command in
     let steps : into_iter_items at.command-iterator ≡ c.in-Some.command ∷ into_iter_items c.next.new.self = c.in-Some.ensures.steps.0 in
-    let quiet = quiet_on at.live.program.rules c.in-Some.command (into_iter_items c.next.new.self) (sym (ap (session_asks at.live.program.rules) steps) ∙ at.invariant.quiet h) in
-    both_then (at.invariant.untouched h) (c.in_ok-undoable.ensures.untouched quiet.0)
+    let quiet = quiet_on at.live.program.rules at.live.program.templates c.in-Some.command (into_iter_items c.next.new.self) (sym (ap (session_asks at.live.program.rules at.live.program.templates) steps) ∙ at.invariant.quiet h) in
+    both_then (at.invariant.untouched h) (c.in_ok-undoable.ensures.untouched quiet.0 quiet.1)

@@ -24,8 +24,8 @@ invariant-loop-command g l = record {
       (λ z. commands_done (setting_of l.fn.live.program 0) l.context.limit l.out.column (into_iter_items l.command-iterator) (meant_with g.B.M.Matcher.stored l.live.program.rules l.undoable l.names z));
   whole : IsTrue l.out.whole;
   faults : g.K.Sink.faults l.sink ≡ g.K.Sink.faults l.fn.sink;
-  untouched : session_asks l.fn.live.program.rules l.fn.commands.items ≡ false → (l.input ≡ l.fn.input) × (l.source ≡ l.fn.source);
-  quiet : session_asks l.fn.live.program.rules l.fn.commands.items ≡ false → session_asks l.live.program.rules (into_iter_items l.command-iterator) ≡ false;
+  untouched : session_asks l.fn.live.program.rules l.fn.live.program.templates l.fn.commands.items ≡ false → (l.input ≡ l.fn.input) × (l.source ≡ l.fn.source);
+  quiet : session_asks l.fn.live.program.rules l.fn.live.program.templates l.fn.commands.items ≡ false → session_asks l.live.program.rules l.live.program.templates (into_iter_items l.command-iterator) ≡ false;
   undoable : IsUndoable g.B.M.Matcher.stored g.B.M.Matcher.stands_for l.live.program.rules l.undoable;
   named : (least : ℕ) → 1 ≤ least → IsNamedFrom least l.fn.names l.fn.undoable.trail → IsNamedFrom least l.names l.undoable.trail;
   names : (first : Spellings) → 1 ≤ length first.held → KeepsNames first l.fn.names → IsNamedFrom (length first.held) l.fn.names l.fn.undoable.trail → KeepsNames first l.names;

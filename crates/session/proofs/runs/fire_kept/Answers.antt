@@ -1,4 +1,4 @@
-use Rattle.std.proofs.Common.{ap, refl}
+use Rattle.std.proofs.Common.{[], ap, refl}
 use Rattle.std.proofs.lemmas.Result.{err_from_is_err_and}
 use Rattle.ops_meaning.specs.Effects.{of_ending}
 use Rattle.cycle.specs.Standing.{standing}
@@ -64,16 +64,16 @@ returns-clause-performs g c i is =
 pub returns-clause-fired : goal.returns-clause-fired
 returns-clause-fired g c = λ z y.
     fires_kept g.M.Matcher.stored c.args.context.now.program.now.rules c.args.undoable.session c.args.undoable.trail c.in-Some.trail c.begin.new.self c.in-Some.is (standing g.M.Matcher.stored c.args.undoable.session.state) refl c.in_ok-begin.ensures.ok
-    c.in_ok-after.after c.args.names.now c.fire-2.new.names c.push.new.self c.point-point.result c.in_ok-after.fired c.in_ok-push.ensures.ok c.in_ok-after.ensures.names c.point-point.ensures.held
+    c.in_ok-after.after c.args.names.now c.fire-2.new.names c.push.new.self c.point-point.result (record c.in_ok-after.fired { built = [] }) c.in_ok-push.ensures.ok c.in_ok-after.ensures.names c.point-point.ensures.held
     c.requires.named c.point-point.ensures.fresh c.in_ok-after.ensures.kept z y
 
 pub returns-clause-named : goal.returns-clause-named
 returns-clause-named g c =
     named_kept g.M.Matcher.stored c.args.context.now.program.now.rules c.args.undoable.session c.args.undoable.trail c.in-Some.trail c.begin.new.self c.in-Some.is (standing g.M.Matcher.stored c.args.undoable.session.state) refl c.in_ok-begin.ensures.ok
-    c.in_ok-after.after c.args.names.now c.fire-2.new.names c.push.new.self c.point-point.result c.in_ok-after.fired c.in_ok-push.ensures.ok c.in_ok-after.ensures.names c.point-point.ensures.held
+    c.in_ok-after.after c.args.names.now c.fire-2.new.names c.push.new.self c.point-point.result (record c.in_ok-after.fired { built = [] }) c.in_ok-push.ensures.ok c.in_ok-after.ensures.names c.point-point.ensures.held
 
 pub returns-clause-trail : goal.returns-clause-trail
 returns-clause-trail g c =
     trailed_kept g.M.Matcher.stored c.args.context.now.program.now.rules c.args.undoable.session c.args.undoable.trail c.in-Some.trail c.begin.new.self c.in-Some.is (standing g.M.Matcher.stored c.args.undoable.session.state) refl c.in_ok-begin.ensures.ok
-    c.in_ok-after.after c.args.names.now c.fire-2.new.names c.push.new.self c.point-point.result c.in_ok-after.fired c.in_ok-push.ensures.ok c.in_ok-after.ensures.names c.point-point.ensures.held
+    c.in_ok-after.after c.args.names.now c.fire-2.new.names c.push.new.self c.point-point.result (record c.in_ok-after.fired { built = [] }) c.in_ok-push.ensures.ok c.in_ok-after.ensures.names c.point-point.ensures.held
     c.in_ok-after.ensures.leaves (c.index-index.ensures.set c.args.context.now.program.now.rules c.requires.of.stands) c.requires.trail

@@ -16,4 +16,4 @@ invariant_of-self c =
 pub returns-then-cell-len : goal.returns-then-cell-len
 returns-then-cell-len c =
     let fields = c.self.inside in
-    state_set (setting_of fields.program.now fields.watch) fields.working fields.bindings.items fields.cells.items fields.halted c.args.self.now c.self.view_is c.args.cell c.args.place
+    state_set (setting_of fields.program.now fields.watch) fields.working fields.bindings.items fields.cells.items fields.halted fields.built.items c.args.self.now c.self.view_is c.args.cell c.args.place

@@ -20,7 +20,7 @@ invariant_of-self-2 c =
 pub returns-clause-does : goal.returns-clause-does
 returns-clause-does c = λ names coming.
     let fields = c.self.inside in
-    state_added names coming (setting_of fields.program.now fields.watch) fields.working c.add.new.self fields.bindings.items fields.cells.items fields.halted c.args.self.now c.self.view_is c.add.ensures.goes_on c.self.invariant
+    state_added names coming (setting_of fields.program.now fields.watch) fields.working c.add.new.self fields.bindings.items fields.cells.items fields.halted fields.built.items c.args.self.now c.self.view_is c.add.ensures.goes_on c.self.invariant
     c.args.class c.args.fields.items (rw c.from_vec.ensures at c.in_ok-add.ensures.does)
 
 pub returns-clause-grows : goal.returns-clause-grows

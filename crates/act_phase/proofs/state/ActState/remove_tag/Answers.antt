@@ -17,5 +17,5 @@ invariant_of-self-2 c =
 pub returns-clause-does : goal.returns-clause-does
 returns-clause-does c = λ names coming.
     let fields = c.self.inside in
-    state_removed names coming (setting_of fields.program.now fields.watch) fields.working c.remove.new.self fields.bindings.items fields.cells.items fields.halted c.args.self.now c.self.view_is c.remove.ensures.goes_on c.self.invariant
+    state_removed names coming (setting_of fields.program.now fields.watch) fields.working c.remove.new.self fields.bindings.items fields.cells.items fields.halted fields.built.items c.args.self.now c.self.view_is c.remove.ensures.goes_on c.self.invariant
     c.args.tag _ c.in_ok-remove.ensures.does refl

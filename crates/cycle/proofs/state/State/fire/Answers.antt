@@ -91,7 +91,7 @@ returns-clause-held g c = λ h e.
     let same = ap (λ (k : Held _). g.M.Matcher.stored k.matcher) c.mark.ensures.marked in
     let held = c.in_ok-state.ensures.held h (rw same e) in
     let is = ap (λ (m : Course). m.wm) (c.in_ok-state.ensures.course c.act_out.new.names no_input) in
-    (held.0, rw same at held.1, held_after c.act_out.new.names _ _ c.in_ok-state.acted.changes held.1 held.2 is)
+    (held.0, rw same at held.1, (held_after c.act_out.new.names _ _ c.in_ok-state.acted.changes held.1 held.2.0 is, held.2.1))
 
 pub returns-clause-inst : goal.returns-clause-inst
 returns-clause-inst g c =
@@ -104,7 +104,7 @@ returns-clause-lawful g c =
 
 pub returns-clause-leaves : goal.returns-clause-leaves
 returns-clause-leaves g c =
-    leaves g.M.Matcher.stored c.args.self c.mark.new.self c.in_ok-state.state c.in_ok-inst.inst c.in_ok-state.acted.halted c.in_ok-state.acted.changes c.in_ok-state.gone
+    leaves g.M.Matcher.stored c.args.self c.mark.new.self c.in_ok-state.state c.in_ok-inst.inst c.in_ok-state.acted.halted c.in_ok-state.acted.built c.in_ok-state.acted.changes c.in_ok-state.gone
     c.in_ok-state.acted.changes refl (conflict_set c.args.program.now.rules) c.mark.ensures.marked c.mark.ensures.marks (λ names coming. c.in_ok-state.ensures.course names coming) c.in_ok-state.ensures.marks
 
 pub returns-clause-gone : goal.returns-clause-gone

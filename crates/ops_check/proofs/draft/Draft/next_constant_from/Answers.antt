@@ -1,4 +1,4 @@
-use Rattle.std.proofs.Common.{◌++◌, ◌+◌, ◌<◌, ◌∙◌, sym, ap, length, arith}
+use Rattle.std.proofs.Common.{◌++◌, ◌+◌, ◌<◌, ◌∙◌, sym, ap, refl, length, arith}
 use Rattle.std.proofs.lemmas.Bool.{lt-ltb}
 use Rattle.ops_base.specs.Valid.{most_fields}
 use Rattle.ops_grammar.specs.Grammar.{goes, after, value_for, within, ToConstants}
@@ -21,6 +21,6 @@ returns-clause-acts c =
           let room = c.saturating_sub-room.ensures in
           let below : c.args.field + length s.constants < most_fields = omega (arith, lt, len, room) in
           ap (λ room. within room (value_for ToConstants w ws s)) (lt-ltb (c.args.field + length s.constants) most_fields below)
-      | else-begins_value-via-else-begins_value b ↦ no_value w ws s (sym c.begins_value.ensures ∙ b.if-begins_value.false) _
+      | else-begins_value-via-else-begins_value b ↦ no_value w ws s refl (sym c.begins_value.ensures ∙ b.if-begins_value.false) _
     ]))
     (view c.value_from.new.self) c.value_from.result c.value_from.ensures.acts

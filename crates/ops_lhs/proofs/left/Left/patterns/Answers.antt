@@ -2,7 +2,7 @@ use Rattle.std.proofs.Common.{◌∷◌, ◌++◌, ◌∙◌, sym, drop}
 use Rattle.std.proofs.lemmas.Result.{err_from_is_err_and}
 use Rattle.ops_grammar.specs.Grammar.{goes, more_patterns, after, Patterns}
 use Rattle.ops_forms.proofs.Ways.{patterns_first}
-use Rattle.ops_lhs.specs.Taking.{seen, Among}
+use Rattle.ops_lhs.specs.Taking.{seen, IsAround}
 use Rattle.ops_forms.proofs.Walks.{fails_as_among, fails_under_among}
 use Rattle.ops_lhs.proofs.left.Left.patterns.Goals as goal
 
@@ -11,7 +11,7 @@ returns-in_err-rest-clause-reads c =
     let w = c.in_ok-word.word in
     let rest = drop c.in_ok-word.after c.args.words.now in
     let p = err_from_is_err_and c.from_residual-in_err-rest.result c.from_residual-in_err-rest.ensures.1 in
-    rw (p.1, p.2) (fails_as_among (Among c.args.classes.now) _ _
+    rw (p.1, p.2) (fails_as_among (IsAround c.args.around.now) _ _
     (λ more ws s i. c.patterns.invariant.same more ws s i ∙ patterns_first (drop c.patterns.rest c.args.words.now) rest more w ws (seen s c.patterns.self) c.in_ok-word.ensures.0 (sym c.is_arrow.ensures ∙ c.if-is_arrow.false))
     c.in_err-rest.field-0.0
-    (fails_under_among (Among c.args.classes.now) (λ more ws s. after (goes (rest ++ more)) w (more_patterns w ws (seen s c.patterns.self))) (λ ws. Patterns ∷ ws) c.in_err-rest.field-0.0 c.in_err-rest.ensures.acts))
+    (fails_under_among (IsAround c.args.around.now) (λ more ws s. after (goes (rest ++ more)) w (more_patterns w ws (seen s c.patterns.self))) (λ ws. Patterns ∷ ws) c.in_err-rest.field-0.0 c.in_err-rest.ensures.acts))

@@ -2,7 +2,7 @@ use Rattle.std.proofs.Common.{◌∷◌, ◌++◌, ◌∙◌, sym, suc, drop}
 use Rattle.std.proofs.lemmas.Result.{err_from_is_err_and}
 use Rattle.ops_grammar.specs.Grammar.{goes, member, after, Members}
 use Rattle.ops_forms.proofs.Ways.{members_first}
-use Rattle.ops_lhs.specs.Taking.{seen, Among}
+use Rattle.ops_lhs.specs.Taking.{seen, IsAround}
 use Rattle.ops_forms.proofs.Walks.{fails_as_among, fails_under_among}
 use Rattle.ops_lhs.proofs.left.Left.read_members.Goals as goal
 
@@ -11,7 +11,7 @@ returns-in_err-rest-clause-reads c =
     let w = c.in_ok-word.word in
     let rest = drop c.in_ok-word.after c.args.words.now in
     let p = err_from_is_err_and c.from_residual-in_err-rest.result c.from_residual-in_err-rest.ensures.1 in
-    rw (p.1, p.2) (fails_as_among (Among c.args.classes.now) _ _
+    rw (p.1, p.2) (fails_as_among (IsAround c.args.around.now) _ _
     (λ more ws s i. c.members.invariant.same more ws s i ∙ members_first c.members.count (drop c.members.rest c.args.words.now) rest more w ws (seen s c.members.self) c.in_ok-word.ensures.0 (sym c.ends_group.ensures ∙ c.if-ends_group.false))
     c.in_err-rest.field-0.0
-    (fails_under_among (Among c.args.classes.now) (λ more ws s. after (goes (rest ++ more)) w (member w ws (seen s c.members.self))) (λ ws. Members (suc c.members.count) ∷ ws) c.in_err-rest.field-0.0 c.in_err-rest.ensures.acts))
+    (fails_under_among (IsAround c.args.around.now) (λ more ws s. after (goes (rest ++ more)) w (member w ws (seen s c.members.self))) (λ ws. Members (suc c.members.count) ∷ ws) c.in_err-rest.field-0.0 c.in_err-rest.ensures.acts))

@@ -1,11 +1,11 @@
 use Rattle.std.proofs.Common.{drop}
 use Rattle.ops_forms.proofs.Ways.{tested_first}
-use Rattle.ops_lhs.specs.Taking.{seen}
-use Rattle.ops_forms.proofs.Walks.{goes_as}
+use Rattle.ops_lhs.specs.Taking.{seen, IsAround}
+use Rattle.ops_forms.proofs.Walks.{goes_as_among}
 use Rattle.ops_lhs.proofs.left.Left.tested.Goals as goal
 
 pub returns-clause-reads : goal.returns-clause-reads
 returns-clause-reads c =
-    goes_as _ _
-    (λ more ws s. tested_first c.args.field c.args.pred (drop c.args.at c.args.words.now) (drop c.in_ok-word.rest c.args.words.now) more c.in_ok-word.word ws (seen s c.args.self.now) c.in_ok-word.ensures.0)
+    goes_as_among (IsAround c.args.around.now) _ _
+    (λ more ws s i. tested_first c.args.field c.args.pred (drop c.args.at c.args.words.now) (drop c.in_ok-word.rest c.args.words.now) more c.in_ok-word.word ws (seen s c.args.self.now) c.in_ok-word.ensures.0)
     c.args.words.now (λ s. seen s c.operand_from.new.self) c.operand_from.result c.operand_from.ensures.acts

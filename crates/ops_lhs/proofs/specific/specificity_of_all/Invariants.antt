@@ -1,6 +1,6 @@
 use Rattle.std.proofs.Common.{◌≡◌, ◌+◌, ◌<◌, ◌^◌, drop}
 use Rattle.ops_base.specs.Valid.{specificity_of}
-use Rattle.ops_check.proofs.ends.specificity_of_all.Given as goal
+use Rattle.ops_lhs.proofs.specific.specificity_of_all.Given as goal
 
 abbrev pub invariant-loop-condition : goal.invariant-loop-condition
 invariant-loop-condition l =

@@ -1,6 +1,6 @@
 use Rattle.std.proofs.Common.{◌≡◌, ◌+◌, ◌<◌, ◌^◌, drop}
 use Rattle.ops_base.specs.Valid.{specificity}
-use Rattle.ops_check.proofs.ends.specificity.Given as goal
+use Rattle.ops_lhs.proofs.specific.specificity.Given as goal
 
 abbrev pub invariant-loop-part : goal.invariant-loop-part
 invariant-loop-part l =
