@@ -1,5 +1,5 @@
 -- Tokens that are put together, one by one, and the form of them.
-use Rattle.std.proofs.Common.{◌≡◌, ℕ, suc, zero, ◌+◌, ◌<◌, ◌≤◌, ◌&&◌, Bool, true, false, cond, if◌then◌else◌, List, [], ◌∷◌, ◌++◌, length, All, refl, sym, ap, ◌∙◌, subst, arith, Option, Some, None, Vec}
+use Rattle.std.proofs.Common.{◌≡◌, ℕ, suc, ◌+◌, ◌≤◌, ◌&&◌, ◌||◌, Bool, true, false, if◌then◌else◌, List, [], ◌∷◌, ◌++◌, length, All, refl, sym, ap, ◌∙◌, subst, arith, Some, None, Vec}
 use Rattle.std.proofs.lemmas.Bool.{and_parts, cond_both}
 use Rattle.std.proofs.lemmas.Grind.{common_steps}
 use Rattle.std.proofs.lemmas.List.Elements.{All-append}
@@ -15,11 +15,10 @@ use Rattle.ops_grammar.specs.Grammar.{is_variable}
 use Rattle.ops_grammar.specs.Words.{Lexed, lexed_at, keyword_of, outside, followed, region_behind, region_after, takes_holes, is_remainder, is_pair, pair, joined}
 use Rattle.ops_grammar.proofs.ReadsValid.{ArePlaced, lexed_placed}
 use Rattle.ops_forms.specs.Forms.{past_last, Ends, IsRaw, IsForm}
-use Rattle.ops_forms.specs.Pairs.{variable_behind}
+use Rattle.ops_forms.specs.Pairs.{has_hole, is_hole, variable_behind}
 use Rattle.ops_forms.specs.declared.form.Form.{Form}
 use Rattle.ops_forms.specs.declared.form.FormEnd.{FormEnd}
 use Rattle.ops_forms.specs.declared.form.FormEnd.TheVariants as end
-use Rattle.ops_forms.proofs.Reading.{IsFormOf}
 
 -- ---- one by one
 
@@ -67,6 +66,28 @@ paired text r t u (v ∷ ts) e = by (is_pair text r t v) refl e
               ∙ ap (λ (x : Region). pair t v ∷ joined text x ts) (behind_variable (region_after text r t) v.kind (spelling text v) kind_is)
               ∙ ap (λ (x : Token). pair t x ∷ joined text (followed (region_after text r t) keyword.Other) ts) same;
         }
+
+-- where nothing stands that could be put together, all tokens stay
+not_paired : (text : List ℕ) (r : Region) (t u : Token) (ts : List Token) → is_hole text t (u ∷ ts) ≡ false → is_pair text r t u ≡ false
+not_paired text r t u ts = by (takes_holes r.within) (is_remainder (keyword_of t.kind (spelling text t))) (is_variable u.kind)
+  where
+    by : (a b c : Bool) → (c && b) ≡ false → (a && b && c) ≡ false
+    by false b c e = refl
+    by true true true e = e
+    by true true false e = refl
+    by true false c e = refl
+
+neither : (a b : Bool) → (a || b) ≡ false → (a ≡ false) × (b ≡ false)
+neither true b e = cc
+neither false b e = (refl, e)
+
+pub as_they_are : (text : List ℕ) (r : Region) (ts : List Token) → has_hole text ts ≡ false → joined text r ts ≡ ts
+as_they_are text r [] e = refl
+as_they_are text r (t ∷ []) e = refl
+as_they_are text r (t ∷ u ∷ ts) e =
+    let parts = neither (is_hole text t (u ∷ ts)) (has_hole text (u ∷ ts)) e in
+    ap (λ (b : Bool). if b then pair t u ∷ joined text (region_after text (region_after text r t) u) ts else t ∷ joined text (region_after text r t) (u ∷ ts)) (not_paired text r t u ts parts.0)
+    ∙ ap (λ (us : List Token). t ∷ us) (as_they_are text (region_after text r t) (u ∷ ts) parts.1)
 
 -- one bracket more is open at most
 pub deeper : (r : Region) (k : TokenKind) (w : Keyword) → (region_behind r k w).depth ≤ r.depth + 1

@@ -7,3 +7,4 @@ pub mod Walks
 pub mod Borders
 pub mod Joined
 pub mod Constants
+pub mod Keywords

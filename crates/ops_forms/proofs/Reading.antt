@@ -13,7 +13,7 @@ use Rattle.ops_tokens.proofs.Clauses.{token-place}
 use Rattle.ops_grammar.specs.Words.{Lexed, lexed_at, lexed_from, lexed_after, led_by}
 use Rattle.ops_grammar.specs.Grammar.{is_left}
 use Rattle.ops_grammar.specs.Reads.{is_numeric}
-use Rattle.ops_forms.specs.Forms.{open_behind, is_last, closes_last, stays_open, opens, led, none_by, past_last, Ends, IsRaw, IsForm, IsStray, IsNext, token, atom}
+use Rattle.ops_forms.specs.Forms.{open_behind, is_last, closes_last, stays_open, opens, led, none_by, past_last, Ends, IsRaw, IsStray, IsNext, token, atom}
 use Rattle.ops_forms.specs.declared.form.FormFault.TheVariants as fault
 use Rattle.ops_forms.specs.declared.form.Form.{Form}
 use Rattle.ops_forms.specs.declared.form.FormEnd.TheVariants as end

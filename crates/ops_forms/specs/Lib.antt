@@ -5,3 +5,4 @@ pub mod Noted
 pub mod Sights
 pub mod PlaceWalks
 pub mod Pairs
+pub mod Keywords

@@ -7,7 +7,7 @@ ghost use Rattle.ops_grammar.specs.Reads.{is_numeric};
 ghost use Rattle.ops_forms.specs.Forms.{open_behind, IsRaw, IsForm, IsNext};
 ghost use Rattle.ops_forms.specs.declared.form.FormFault.TheVariants.{Lex as Bad, Stray as Astray, OutOfMemory as WantOfMemory};
 
-use crate::pairs::joined;
+use crate::pairs::{has_hole, joined};
 use ops_base::memory::OutOfMemory;
 use ops_tokens::token::{FRACTION_NUMBER, NUMBER_RANGE};
 use ops_tokens::{LexFault, Scanner, Token, TokenKind};
@@ -102,6 +102,9 @@ impl FormReader {
         ensures { IfOk result (λ form. (from : ℕ) → from ≤ length text.now → token_at text.now from ≡ Ok (Some left) → IsForm text.now from form) }
     {
         let form = self.form_of(alloc, text, left)?;
+        if !has_hole(text, form.tokens.as_slice()) {
+            return Ok(form);
+        }
         let tokens = joined(alloc, text, form.tokens.as_slice())?;
         Ok(Form {
             tokens,

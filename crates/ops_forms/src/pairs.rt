@@ -2,7 +2,7 @@
 ghost use Rattle.std.specs.Prelude.{◌≡◌, ◌<◌, ◌^◌, All, IfOk, Some};
 ghost use Rattle.ops_tokens.specs.Tokens.{LiesIn};
 ghost use Rattle.ops_grammar.specs.Words.{outside, begun, passed, left, closed, followed, region_behind, takes_holes, is_remainder, pair, joined};
-ghost use Rattle.ops_forms.specs.Pairs.{variable_behind};
+ghost use Rattle.ops_forms.specs.Pairs.{begins_with_variable, has_hole, is_hole, variable_behind};
 
 use crate::kinds::is_variable;
 use crate::words::keyword_of;
@@ -10,6 +10,42 @@ use ops_base::memory::OutOfMemory;
 use ops_grammar::{Keyword, Region, Within};
 use ops_tokens::{Token, TokenKind, spelling_of};
 use std::alloc::Global;
+
+/// Whether a `\\` or `\` stands right before a variable. Where none does, no two tokens are one. Looks up the keywords of
+/// the tokens right before variables.
+pub fn has_hole(text: &[u8], tokens: &[Token]) -> bool
+    requires { All (λ t. LiesIn text.now t) tokens.now }
+    ensures { result ≡ has_hole text.now tokens.now }
+{
+    let mut rest = tokens;
+    'tokens: loop {
+        let Some((token, after)) = rest.split_first() else {
+            return false;
+        };
+        if is_hole(text, token, after) {
+            return true;
+        }
+        rest = after;
+    }
+}
+
+// whether the token is a `\\` or `\` and a variable stands right after it
+fn is_hole(text: &[u8], token: &Token, after: &[Token]) -> bool
+    requires { LiesIn text.now token.now }
+    ensures { result ≡ is_hole text.now token.now after.now }
+{
+    begins_with_variable(after) && is_remainder(keyword_of(token.kind, spelling_of(text, token)))
+}
+
+// whether the first of the tokens is a variable
+fn begins_with_variable(tokens: &[Token]) -> bool
+    ensures { result ≡ begins_with_variable tokens.now }
+{
+    match tokens.first() {
+        Some(token) => is_variable(token.kind),
+        None => false,
+    }
+}
 
 /// The tokens of a form, in which a `\\` or `\` right before a variable is one quoted token with it inside a `build`,
 /// outside `compute`. Takes time in proportion to the number of bytes of the tokens.

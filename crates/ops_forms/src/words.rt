@@ -3,7 +3,8 @@ ghost use Rattle.std.specs.Prelude.{◌≡◌, ◌≤◌, not, length, reverse, 
 ghost use Rattle.ops_base.specs.Names.{place_of};
 ghost use Rattle.ops_tokens.specs.Bytes.{is_white};
 ghost use Rattle.ops_tokens.specs.Tokens.{spelling, LiesIn};
-ghost use Rattle.ops_grammar.specs.Words.{keyword_in, is_joined, hole_in, keyword_of, keyword_of_symbol, keyword_of_function, keyword_of_command, keyword_of_operator, has_name, names_with, name_in, word_of, word_before, keyword_before, words_from, names_from};
+ghost use Rattle.ops_grammar.specs.Words.{keyword_in, is_joined, hole_in, keyword_of, keyword_of_symbol, keyword_of_operator, has_name, names_with, name_in, word_of, word_before, keyword_before, words_from, names_from};
+ghost use Rattle.ops_forms.specs.Keywords.{first_like, as_long_as, longer};
 
 use ops_base::memory::OutOfMemory;
 use ops_base::symbols::Names;
@@ -210,99 +211,156 @@ fn keyword_of_operator(spelling: &[u8]) -> Keyword
     }
 }
 
+// Only the keywords that are as long are compared with it.
 fn keyword_of_symbol(spelling: &[u8]) -> Keyword
     ensures { result ≡ keyword_of_symbol spelling.now }
 {
-    if is(spelling, b"literalize") {
-        Keyword::Literalize
-    } else if is(spelling, b"vector-attribute") {
-        Keyword::VectorAttribute
-    } else if is(spelling, b"p") {
+    match spelling.len() {
+        0 => Keyword::Other,
+        1 => keyword_of_one(spelling),
+        2 => keyword_of_two(spelling),
+        3 => keyword_of_three(spelling),
+        4 => keyword_of_four(spelling),
+        5 => keyword_of_five(spelling),
+        6 => keyword_of_six(spelling),
+        7 => keyword_of_seven(spelling),
+        _ => keyword_of_more(spelling),
+    }
+}
+
+fn keyword_of_one(spelling: &[u8]) -> Keyword
+    ensures { result ≡ first_like spelling.now (as_long_as 1) }
+{
+    if is(spelling, b"p") {
         Keyword::Production
-    } else if is(spelling, b"make") {
+    } else if is(spelling, b"+") {
+        Keyword::Plus
+    } else if is(spelling, b"*") {
+        Keyword::Times
+    } else if is(spelling, b"\\") {
+        Keyword::Remainder
+    } else {
+        Keyword::Other
+    }
+}
+
+fn keyword_of_two(spelling: &[u8]) -> Keyword
+    ensures { result ≡ first_like spelling.now (as_long_as 2) }
+{
+    if is(spelling, b"\\\\") {
+        Keyword::Remainder
+    } else if is(spelling, b"wm") {
+        Keyword::Wm
+    } else if is(spelling, b"cs") {
+        Keyword::Cs
+    } else if is(spelling, b"pm") {
+        Keyword::Pm
+    } else {
+        Keyword::Other
+    }
+}
+
+fn keyword_of_three(spelling: &[u8]) -> Keyword
+    ensures { result ≡ first_like spelling.now (as_long_as 3) }
+{
+    if is(spelling, b"inf") {
+        Keyword::Inf
+    } else if is(spelling, b"run") {
+        Keyword::Run
+    } else if is(spelling, b"lex") {
+        Keyword::Lex
+    } else if is(spelling, b"mea") {
+        Keyword::Mea
+    } else {
+        Keyword::Other
+    }
+}
+
+fn keyword_of_four(spelling: &[u8]) -> Keyword
+    ensures { result ≡ first_like spelling.now (as_long_as 4) }
+{
+    if is(spelling, b"make") {
         Keyword::Make
-    } else if is(spelling, b"remove") {
-        Keyword::Remove
-    } else if is(spelling, b"modify") {
-        Keyword::Modify
-    } else if is(spelling, b"write") {
-        Keyword::Write
     } else if is(spelling, b"bind") {
         Keyword::Bind
-    } else if is(spelling, b"cbind") {
-        Keyword::Cbind
     } else if is(spelling, b"crlf") {
         Keyword::Crlf
+    } else if is(spelling, b"halt") {
+        Keyword::Halt
+    } else if is(spelling, b"ppwm") {
+        Keyword::Ppwm
+    } else if is(spelling, b"back") {
+        Keyword::Back
+    } else if is(spelling, b"exit") {
+        Keyword::Exit
+    } else {
+        Keyword::Other
+    }
+}
+
+fn keyword_of_five(spelling: &[u8]) -> Keyword
+    ensures { result ≡ first_like spelling.now (as_long_as 5) }
+{
+    if is(spelling, b"write") {
+        Keyword::Write
+    } else if is(spelling, b"cbind") {
+        Keyword::Cbind
     } else if is(spelling, b"tabto") {
         Keyword::Tabto
     } else if is(spelling, b"rjust") {
         Keyword::Rjust
-    } else if is(spelling, b"substr") {
-        Keyword::Substr
-    } else if is(spelling, b"inf") {
-        Keyword::Inf
-    } else if is(spelling, b"halt") {
-        Keyword::Halt
     } else if is(spelling, b"build") {
         Keyword::Build
+    } else if is(spelling, b"watch") {
+        Keyword::Watch
     } else {
-        keyword_of_function(spelling)
+        Keyword::Other
     }
 }
 
-fn keyword_of_function(spelling: &[u8]) -> Keyword
-    ensures { result ≡ keyword_of_function spelling.now }
+fn keyword_of_six(spelling: &[u8]) -> Keyword
+    ensures { result ≡ first_like spelling.now (as_long_as 6) }
+{
+    if is(spelling, b"remove") {
+        Keyword::Remove
+    } else if is(spelling, b"modify") {
+        Keyword::Modify
+    } else if is(spelling, b"substr") {
+        Keyword::Substr
+    } else if is(spelling, b"accept") {
+        Keyword::Accept
+    } else if is(spelling, b"pbreak") {
+        Keyword::Pbreak
+    } else if is(spelling, b"excise") {
+        Keyword::Excise
+    } else {
+        Keyword::Other
+    }
+}
+
+fn keyword_of_seven(spelling: &[u8]) -> Keyword
+    ensures { result ≡ first_like spelling.now (as_long_as 7) }
 {
     if is(spelling, b"compute") {
         Keyword::Compute
     } else if is(spelling, b"genatom") {
         Keyword::Genatom
-    } else if is(spelling, b"accept") {
-        Keyword::Accept
-    } else if is(spelling, b"+") {
-        Keyword::Plus
-    } else if is(spelling, b"*") {
-        Keyword::Times
-    } else if is(spelling, b"\\\\") {
-        Keyword::Remainder
-    } else if is(spelling, b"\\") {
-        Keyword::Remainder
+    } else if is(spelling, b"matches") {
+        Keyword::Matches
     } else {
-        keyword_of_command(spelling)
+        Keyword::Other
     }
 }
 
-fn keyword_of_command(spelling: &[u8]) -> Keyword
-    ensures { result ≡ keyword_of_command spelling.now }
+fn keyword_of_more(spelling: &[u8]) -> Keyword
+    ensures { result ≡ first_like spelling.now longer }
 {
-    if is(spelling, b"run") {
-        Keyword::Run
+    if is(spelling, b"literalize") {
+        Keyword::Literalize
+    } else if is(spelling, b"vector-attribute") {
+        Keyword::VectorAttribute
     } else if is(spelling, b"strategy") {
         Keyword::Strategy
-    } else if is(spelling, b"lex") {
-        Keyword::Lex
-    } else if is(spelling, b"mea") {
-        Keyword::Mea
-    } else if is(spelling, b"wm") {
-        Keyword::Wm
-    } else if is(spelling, b"ppwm") {
-        Keyword::Ppwm
-    } else if is(spelling, b"cs") {
-        Keyword::Cs
-    } else if is(spelling, b"pm") {
-        Keyword::Pm
-    } else if is(spelling, b"watch") {
-        Keyword::Watch
-    } else if is(spelling, b"pbreak") {
-        Keyword::Pbreak
-    } else if is(spelling, b"excise") {
-        Keyword::Excise
-    } else if is(spelling, b"matches") {
-        Keyword::Matches
-    } else if is(spelling, b"back") {
-        Keyword::Back
-    } else if is(spelling, b"exit") {
-        Keyword::Exit
     } else {
         Keyword::Other
     }

@@ -1,4 +1,4 @@
-use Rattle.std.proofs.Common.{◌≡◌, ◌+◌, ◌-◌, ◌≤◌, ◌∷◌, ◌++◌, [], List, None, Some, suc, sym, ap, ◌∙◌, length, take, drop, append_assoc, arith}
+use Rattle.std.proofs.Common.{◌≡◌, ◌+◌, ◌-◌, ◌≤◌, ◌∷◌, ◌++◌, [], List, suc, sym, ap, ◌∙◌, length, take, drop, append_assoc, arith}
 use Rattle.ops_tokens.specs.declared.token.Token.{Token}
 use Rattle.ops_tokens.specs.Tokens.{spelling}
 use Rattle.ops_grammar.specs.declared.words.Keyword.{Keyword}
