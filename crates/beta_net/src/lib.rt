@@ -1,7 +1,8 @@
 //! The compiler that turns productions into a network in which they share what they have in common.
 #![tactic(auto)]
 
-ghost use Rattle.std.specs.Prelude.{IfOk};
+ghost use Rattle.std.specs.Prelude.{◌≡◌, ◌∷◌, ◌≤◌, ◌<◌, [], IfOk, Some, length, slice_get, slice_range};
+ghost use Rattle.ops_base.specs.declared.rules.Rule.{Rule};
 ghost use Rattle.net_base.specs.Network.{NetOf};
 ghost use Rattle.net_base.specs.Shape.{IsShape, counts_of};
 ghost use Rattle.beta_net.specs.Built.{IsCompiled};
@@ -28,15 +29,38 @@ use ops_base::memory::OutOfMemory;
 use ops_base::programs::Program;
 use std::alloc::Global;
 
-/// The alphas and nodes of the program's productions.
-fn draft_of(alloc: Global, program: &Program) -> Result<Draft, OutOfMemory>
-    ensures { IfOk result (λ d. IsCompiled program.now.rules d.alphas.items d.nodes.items) }
+/// The alphas and nodes of the program's productions from the one with number `first` to before the one with number
+/// `past`.
+fn draft_of(
+    alloc: Global,
+    program: &Program,
+    first: usize,
+    past: usize,
+) -> Result<Draft, OutOfMemory>
+    requires ordered { first ≤ past }
+    requires within { past ≤ length program.now.rules }
+    ensures { IfOk result (λ d. IsCompiled (slice_range program.now.rules first past) d.alphas.items d.nodes.items) }
 {
-    let built = build(alloc, program.rules.as_slice())?;
+    let built = build(alloc, &program.rules.as_slice()[first..past])?;
     let mut draft = lower(alloc, built.links.list.as_slice(), built.ends.as_slice())?;
     add_children(&mut draft.nodes)?;
     add_rights(&mut draft.nodes)?;
     Ok(draft)
+}
+
+/// The network of these productions.
+fn net_of(alloc: Global, program: &Program, first: usize, past: usize) -> Result<Net, OutOfMemory>
+    requires ordered { first ≤ past }
+    requires within { past ≤ length program.now.rules }
+    ensures network { IfOk result (λ net. NetOf net (slice_range program.now.rules first past)) }
+    ensures shape { IfOk result (λ net. IsShape (slice_range program.now.rules first past) (counts_of net.alphas net.nodes)) }
+    ensures built { IfOk result (λ net. IsCompiled (slice_range program.now.rules first past) net.alphas net.nodes) }
+{
+    let draft = draft_of(alloc, program, first, past)?;
+    let alphas = Listed::from_vec(draft.alphas);
+    let nodes = Listed::from_vec(draft.nodes);
+    let net = Net::new(alloc, alphas, nodes)?;
+    Ok(net)
 }
 
 /// The network of the program's productions. Two conditions share a node exactly if the parts before them are the
@@ -55,9 +79,15 @@ pub fn compile(alloc: Global, program: &Program) -> Result<Net, OutOfMemory>
     // A node for each path, with the tests of its last part, and nothing else.
     ensures built { IfOk result (λ net. IsCompiled program.now.rules net.alphas net.nodes) }
 {
-    let draft = draft_of(alloc, program)?;
-    let alphas = Listed::from_vec(draft.alphas);
-    let nodes = Listed::from_vec(draft.nodes);
-    let net = Net::new(alloc, alphas, nodes)?;
-    Ok(net)
+    net_of(alloc, program, 0, program.rules.len())
+}
+
+/// The network of the production with this number alone. It costs the compilation of that one.
+pub fn compile_one(alloc: Global, program: &Program, number: usize) -> Result<Net, OutOfMemory>
+    requires { number < length program.now.rules }
+    ensures { IfOk result (λ net. (r : Rule) → slice_get program.now.rules number ≡ Some r → NetOf net (r ∷ [])) }
+{
+    let count = program.rules.len();
+    prove!(number < count);
+    net_of(alloc, program, number, number + 1)
 }

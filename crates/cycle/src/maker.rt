@@ -1,5 +1,5 @@
-//! What makes matchers: a program that changes while it runs needs a new one.
-ghost use Rattle.std.specs.Prelude.{◌≡◌, [], List, IfOk};
+//! What makes matchers, and lets them grow: a program that changes while it runs needs that.
+ghost use Rattle.std.specs.Prelude.{◌≡◌, ◌<◌, [], List, suc, length, take, IfOk};
 ghost use Rattle.ops_base.specs.declared.rules.Rule.{Rule};
 ghost use Rattle.ops_base.specs.WorkingMemory.{Lawful, done, last_after};
 ghost use Rattle.work_store.specs.Settling.{IsSettled};
@@ -11,7 +11,7 @@ use ops_base::programs::Program;
 use std::alloc::Global;
 use work_store::{Matcher, Settled};
 
-/// Makes matchers, one for each program that comes into force.
+/// Makes matchers for the programs that come into force, and adds productions to them.
 pub trait Maker {
     type M: Matcher;
 
@@ -20,6 +20,22 @@ pub trait Maker {
         ensures stands { IfOk result (λ m. Self.M.stands_for m program.now.rules) }
         ensures elements { IfOk result (λ m. (Self.M.stored m).elements ≡ []) }
         ensures last { IfOk result (λ m. (Self.M.stored m).last ≡ 0) };
+
+    /// The matcher of the productions before the one with this number, with that production added to it. It keeps its
+    /// working memory. What it finds now and did not find before has come. If memory runs out, the matcher is lost.
+    fn grow(
+        &self,
+        alloc: Global,
+        matcher: Self::M,
+        program: &Program,
+        number: usize,
+    ) -> Result<Settled<Self::M>, OutOfMemory>
+        requires within { number < length program.now.rules }
+        requires before { Self.M.stands_for matcher (take number program.now.rules) }
+        ensures stands { IfOk result (λ s. Self.M.stands_for s.matcher (take (suc number) program.now.rules)) }
+        ensures elements { IfOk result (λ s. (Self.M.stored s.matcher).elements ≡ (Self.M.stored matcher).elements) }
+        ensures last { IfOk result (λ s. (Self.M.stored s.matcher).last ≡ (Self.M.stored matcher).last) }
+        ensures settled { IfOk result (λ s. IsSettled (Self.M.found matcher) (Self.M.found s.matcher) s.gone.items s.come.items) };
 }
 
 /// A matcher for the program over the working memory that these changes make. It settles once, so everything that it

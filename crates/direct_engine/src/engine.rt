@@ -1,6 +1,7 @@
 //! The direct engine.
-ghost use Rattle.std.specs.Prelude.{◌≡◌, IfOk};
-ghost use Rattle.ops_base.specs.Instances.{IsConflictSet};
+ghost use Rattle.std.specs.Prelude.{◌≡◌, ◌<◌, suc, length, take, IfOk};
+ghost use Rattle.ops_base.specs.Instances.{IsConflictSet, IsInOrder};
+ghost use Rattle.work_store.specs.Settling.{IsSettled};
 ghost use Rattle.work_store.specs.Stored.{nothing_stored};
 
 use crate::difference::{Difference, difference_of};
@@ -45,6 +46,49 @@ fn find(alloc: Global, program: &Program, store: &Store) -> Result<Listed<Inst>,
     direct_set_of(alloc, program, present.as_slice())
 }
 
+/// The engine of this program over this store, and how what it finds differs from what was found before.
+fn settled(
+    alloc: Global,
+    program: Program,
+    store: Store,
+    before: &Listed<Inst>,
+) -> Result<Settled<DirectEngine>, OutOfMemory>
+    requires { IsInOrder before.now }
+    ensures rules { IfOk result (λ s. s.matcher.rules ≡ program.rules) }
+    ensures stored { IfOk result (λ s. s.matcher.stored ≡ store) }
+    ensures settled { IfOk result (λ s. IsSettled before.now s.matcher.found s.gone.items s.come.items) }
+{
+    let found = find(alloc, &program, &store)?;
+    let Difference { gone, come } = difference_of(alloc, before.as_slice(), found.as_slice())?;
+    let matcher = DirectEngine {
+        program,
+        store,
+        found,
+    };
+    Ok(Settled {
+        matcher,
+        come,
+        gone,
+    })
+}
+
+/// A copy of the program that has only the first so many of its productions.
+fn beginning(alloc: Global, program: &Program, count: usize) -> Result<Program, OutOfMemory>
+    ensures { IfOk result (λ p. p.rules ≡ take count program.now.rules) }
+{
+    let Program {
+        classes,
+        rules,
+        templates,
+        commands,
+        text,
+    } = program.copy(alloc)?;
+    let mut rules = rules.into_vec();
+    rules.truncate(count);
+    let rules = Listed::from_vec(rules);
+    Ok(Program::new(classes, rules, templates, commands, text))
+}
+
 impl DirectEngine {
     /// Copies the program. Nothing is stored, and nothing is found.
     pub fn new(alloc: Global, program: &Program) -> Result<DirectEngine, OutOfMemory>
@@ -59,6 +103,31 @@ impl DirectEngine {
             store,
             found,
         })
+    }
+
+    /// The engine of the productions before the one with this number, with that production added to it. It keeps its
+    /// working memory. What it finds now and did not find before has come. It copies the program, and finds the whole
+    /// conflict set again, as a settle does. If memory runs out, the engine is lost.
+    pub fn grow(
+        self,
+        alloc: Global,
+        program: &Program,
+        number: usize,
+    ) -> Result<Settled<DirectEngine>, OutOfMemory>
+        requires within { number < length program.now.rules }
+        requires before { self.rules ≡ take number program.now.rules }
+        ensures stands { IfOk result (λ s. s.matcher.rules ≡ take (suc number) program.now.rules) }
+        ensures elements { IfOk result (λ s. s.matcher.stored.elements ≡ self.stored.elements) }
+        ensures last { IfOk result (λ s. s.matcher.stored.last ≡ self.stored.last) }
+        ensures settled { IfOk result (λ s. IsSettled self.found s.matcher.found s.gone.items s.come.items) }
+    {
+        let DirectEngine {
+            program: _,
+            store,
+            found: before,
+        } = self;
+        let program = beginning(alloc, program, number + 1)?;
+        settled(alloc, program, store, &before)
     }
 }
 
@@ -97,17 +166,6 @@ impl Matcher for DirectEngine {
         } = self;
         store.make_changes(alloc, changes)?;
         store.forget();
-        let found = find(alloc, &program, &store)?;
-        let Difference { gone, come } = difference_of(alloc, before.as_slice(), found.as_slice())?;
-        let matcher = DirectEngine {
-            program,
-            store,
-            found,
-        };
-        Ok(Settled {
-            matcher,
-            come,
-            gone,
-        })
+        settled(alloc, program, store, &before)
     }
 }

@@ -1,5 +1,5 @@
 //! The engine of free workers: a matcher over a network whose tasks are performed by several threads in any order.
-ghost use Rattle.std.specs.Prelude.{◌≡◌, ◌≤◌, ◌^◌, All, IfOk, [], length, map};
+ghost use Rattle.std.specs.Prelude.{◌≡◌, ◌≤◌, ◌^◌, ◌++◌, All, IfOk, [], length, map};
 ghost use Rattle.work_store.specs.Stored.{held_of, nothing_stored};
 ghost use Rattle.activation.specs.Acting.{TellsOfLasts};
 ghost use Rattle.step_core.specs.Laws.{AreEmpty};
@@ -7,11 +7,12 @@ ghost use Rattle.step_core.specs.Phases.{HoldJust, now, sums_over};
 ghost use Rattle.step_core.specs.Worlds.{AreNumbered, placed, seen};
 
 use crate::phases::{WORTH, settle};
+use grow_net::Growth;
 use net_base::net::Net;
 use ops_base::elements::Change;
 use ops_base::memory::OutOfMemory;
 use ops_io::Gate;
-use serial_engine::settle as settle_alone;
+use serial_engine::{grow, settle as settle_alone};
 use std::alloc::Global;
 use std::marker::Model;
 use std::sync::Wait;
@@ -94,6 +95,66 @@ impl<G: Drop> FreeEngine<G> {
     }
 }
 
+impl<G: Drop> FreeEngine<G> {
+    ghost use Rattle.work_store.specs.Settling.{IsSettled};
+    ghost use Rattle.net_base.specs.Sound.{IsSound};
+    ghost use Rattle.step_core.specs.Found.{found_over};
+    ghost use Rattle.grow_net.specs.Behind.{IsGrown, StandApart};
+
+    /// The network. Takes no memory.
+    pub fn net(&self) -> &Net
+        ensures { result.now ≡ self.now.net }
+    {
+        let parts = self.parts.as_ref();
+        &parts.net
+    }
+
+    /// The engine for the network with these alphas and nodes after its own. It keeps its working memory and its
+    /// lines. What it finds now and did not find before has come. It performs the tasks that are due at the new nodes
+    /// and all that result, on the calling thread alone; see the costs of `serial_engine::grow`. It allocates its own
+    /// place on the heap again. `enter` gets the line of each task just before it is performed. If memory runs out,
+    /// the engine is lost.
+    pub fn grow<F: Fn(usize)>(
+        self,
+        alloc: Global,
+        growth: Growth,
+        enter: &F,
+    ) -> Result<Settled<FreeEngine<G>>, OutOfMemory>
+        requires enter { F.IsAlwaysCallable enter.now }
+        requires sound { IsSound (self.net.alphas ++ growth.alphas.items) (self.net.nodes ++ growth.nodes.items) }
+        requires apart { StandApart self.net.nodes growth.nodes.items }
+        ensures grown { IfOk result (λ s. IsGrown self.net s.matcher.net growth.alphas.items growth.nodes.items) }
+        ensures elements { IfOk result (λ s. s.matcher.store.elements ≡ self.store.elements) }
+        ensures last { IfOk result (λ s. s.matcher.store.last ≡ self.store.last) }
+        ensures settled { IfOk result (λ s. IsSettled (found_over self.net.alphas self.net.nodes self.store.elements) (found_over s.matcher.net.alphas s.matcher.net.nodes s.matcher.store.elements) s.gone.items s.come.items) }
+        ensures lines { IfOk result (λ s. length s.matcher.world.lines.items ≡ length self.world.lines.items) }
+        ensures workers { IfOk result (λ s. s.matcher.sharing.workers ≡ self.sharing.workers) }
+    {
+        let FreeEngine { parts } = self;
+        let Parts {
+            net,
+            store,
+            world,
+            gate,
+            sharing,
+        } = Box::into_inner(parts);
+        let grown = grow(alloc, net, &store, enter, world, growth)?;
+        let parts = Parts {
+            net: grown.net,
+            store,
+            world: grown.world,
+            gate,
+            sharing,
+        };
+        let parts = Box::new(alloc, parts)?;
+        Ok(Settled {
+            matcher: FreeEngine { parts },
+            come: grown.come,
+            gone: grown.gone,
+        })
+    }
+}
+
 impl<G: Gate + Drop> FreeEngine<G> {
     ghost use Rattle.std.specs.Prelude.{List};
     ghost use Rattle.ops_base.specs.declared.rules.Rule.{Rule};
@@ -104,21 +165,13 @@ impl<G: Gate + Drop> FreeEngine<G> {
     ghost use Rattle.step_core.specs.Phases.{IsBundle};
     ghost use Rattle.step_core.specs.Found.{found_over};
 
-    /// The network. Takes no memory.
-    pub fn net(&self) -> &Net
-        ensures { result.now ≡ self.now.net }
-    {
-        let parts = self.parts.as_ref();
-        &parts.net
-    }
-
-    /// The lines, in the order of their numbers, with the entries of the last settle. Takes no memory.
+    /// The lines, in the order of their numbers, with the entries of the last settle or growth. Takes no memory.
     pub fn lines(&self) -> &[Line]
         ensures lines { result.now ≡ self.now.world.lines.items }
         ensures numbered { AreNumbered result.now }
         // They hold exactly the tokens over the store.
         ensures hold { HoldJust (placed (held_of self.now.store) self.now.net.nodes (length result.now)) (sums_over self.now.store.elements self.now.net.alphas self.now.net.nodes) (map now (map seen result.now)) }
-        // They report exactly the tasks of the last settle that were for terminals.
+        // They report exactly the tasks of the last settle or growth that were for terminals.
         ensures told { All (TellsOfLasts self.now.net.nodes) result.now }
     {
         let parts = self.parts.as_ref();

@@ -5,4 +5,4 @@ pub mod Standing
 pub mod Growing
 pub mod PlaceLemmas
 pub mod Whole
-pub mod LastValid
+pub mod Fronts

@@ -1,3 +1,2 @@
 -- Networks appended to others.
 pub mod Behind
-pub mod Last

@@ -1,22 +1,20 @@
 //! What a network lacks for productions that are added to it: a chain of nodes of their own, after all of its nodes.
 #![tactic(auto)]
 
-ghost use Rattle.std.specs.Prelude.{◌≡◌, ◌++◌, ◌+◌, ◌<◌, ◌≤◌, ◌^◌, ◌-◌, IfOk, length};
+ghost use Rattle.std.specs.Prelude.{◌≡◌, ◌++◌, ◌+◌, ◌<◌, ◌^◌, ◌-◌, IfOk, length, suc, take};
 ghost use Rattle.net_base.specs.declared.net.Net.{Net};
 ghost use Rattle.net_base.specs.Network.{NetOf};
 ghost use Rattle.net_base.specs.Sound.{IsSound};
 ghost use Rattle.grow_net.specs.Behind.{HasRulesBelow, HaveNoneInCommon, IsGrown, IsOfAll, StandApart};
-ghost use Rattle.grow_net.specs.Last.{HasSameParts, but_last};
 
 mod alphas;
 mod copies;
-mod last;
 mod nodes;
 mod same;
 
 use crate::alphas::places_of;
-use crate::last::net_of_last;
 use crate::nodes::{Before, nodes_behind};
+use beta_net::compile_one;
 use net_base::net::Net;
 use net_base::nodes::{Alpha, Node};
 use ops_base::memory::OutOfMemory;
@@ -66,32 +64,22 @@ pub fn growth_of(alloc: Global, net: &Net, rules: usize, added: &Net) -> Result<
     Ok(Growth { alphas, nodes })
 }
 
-/// How many productions come before the last one.
-fn rules_before(program: &Program) -> usize
-    requires { 1 ≤ length program.now.rules }
-    ensures count { result ≡ length program.now.rules - 1 }
-    ensures fits { result < 2 ^ 64 }
-{
-    program.rules.len() - 1
-}
-
-/// What the network of the productions before the last one lacks for the last one. The program is as before, even if
-/// memory runs out. It costs the compilation of one production, and what `growth_of` costs.
-pub fn growth_for_last(
+/// What the network of the productions before the one with this number lacks for that production. It costs the
+/// compilation of one production, and what `growth_of` costs.
+pub fn growth_for(
     alloc: Global,
     net: &Net,
-    program: &mut Program,
+    program: &Program,
+    number: usize,
 ) -> Result<Growth, OutOfMemory>
-    requires some { 1 ≤ length program.old.rules }
-    requires before { NetOf net.now (but_last program.old.rules) }
-    ensures program { HasSameParts program.old program.new }
-    ensures network { IfOk result (λ g. (grown : Net) → IsGrown net.now grown g.alphas.items g.nodes.items → NetOf grown program.old.rules) }
+    requires within { number < length program.now.rules }
+    requires before { NetOf net.now (take number program.now.rules) }
+    ensures network { IfOk result (λ g. (grown : Net) → IsGrown net.now grown g.alphas.items g.nodes.items → NetOf grown (take (suc number) program.now.rules)) }
     ensures sound { IfOk result (λ g. IsSound (net.now.alphas ++ g.alphas.items) (net.now.nodes ++ g.nodes.items)) }
     ensures apart { IfOk result (λ g. StandApart net.now.nodes g.nodes.items) }
     ensures fresh { IfOk result (λ g. HaveNoneInCommon net.now.alphas g.alphas.items) }
 {
-    let rules = rules_before(program);
-    let added = net_of_last(alloc, program)?;
-    let growth = growth_of(alloc, net, rules, &added)?;
+    let added = compile_one(alloc, program, number)?;
+    let growth = growth_of(alloc, net, number, &added)?;
     Ok(growth)
 }

@@ -38,7 +38,7 @@ use Rattle.live_rules.specs.Renewing.{moved_course}
 
 -- ---- the new numbers
 
-some_is : {X : Type 0} (x y : X) → Some x ≡ Some y → x ≡ y
+pub some_is : {X : Type 0} (x y : X) → Some x ≡ Some y → x ≡ y
 some_is x y e = cc
 
 -- what was found in a list is found once one comes after it
@@ -258,7 +258,7 @@ same_found found come slice insts e f same i =
 
 -- ---- the state
 
-fired_within : (ms : List Member) (i : Inst) → Contains (fired_of ms) i → Contains (insts_of ms) i
+pub fired_within : (ms : List Member) (i : Inst) → Contains (fired_of ms) i → Contains (insts_of ms) i
 fired_within ms i h = let f = fired_member ms i h in member_inst ms f.0 i f.1 f.3
 
 -- the marks of the new index are those that have moved

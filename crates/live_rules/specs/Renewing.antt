@@ -13,6 +13,11 @@ pub record IsFrom {M : Type 0} (stands_for : M → List Rule → Type 0) (places
   pub stands : stands_for s.matcher old
   pub specificities : KeepsSpecificities old s.index.members
 
+-- The state is that of these productions.
+pub record IsOf {M : Type 0} (stands_for : M → List Rule → Type 0) (rules : List Rule) (s : Held M) : Type 0 where
+  pub stands : stands_for s.matcher rules
+  pub specificities : KeepsSpecificities rules s.index.members
+
 -- the marks of the productions that stay, under their new numbers
 abbrev pub moved_course : Places → Course → Course
 moved_course places m = record m { fired = insts_moved places m.fired }

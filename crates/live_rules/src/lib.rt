@@ -1,6 +1,7 @@
 //! The program in force, whose productions come and go, and the state of the cycle, which follows it.
 #![tactic(auto)]
 
+mod growing;
 mod live;
 mod moved;
 mod renewing;

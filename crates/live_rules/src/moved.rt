@@ -1,5 +1,5 @@
 //! The new numbers of productions.
-ghost use Rattle.std.specs.Prelude.{◌≡◌, IfOk, length, option_and_then};
+ghost use Rattle.std.specs.Prelude.{◌≡◌, ◌↔◌, IfOk, IsTrue, MatchOption, length, option_and_then};
 ghost use Rattle.ops_base.specs.Live.{moved};
 ghost use Rattle.ops_meaning.specs.Running.{place_beside};
 ghost use Rattle.live_rules.specs.Moves.{place_of, places_moved, places_moved_any, unmoved};
@@ -58,6 +58,27 @@ fn move_places(gone: usize, places: &mut [Option<usize>])
     }
 }
 
+fn is_at(place: Option<usize>, number: usize) -> bool
+    ensures { IsTrue result ↔ (place ≡ Some number) }
+{
+    match place {
+        Some(there) => there == number,
+        None => false,
+    }
+}
+
+/// Whether each production has its old number. Looks at the places up to the first that differs.
+fn are_unmoved(places: &[Option<usize>]) -> bool
+    ensures { IsTrue result ↔ (places.now ≡ unmoved (length places.now)) }
+{
+    for number in 0..places.len() {
+        if !is_at(places[number], number) {
+            return false;
+        }
+    }
+    true
+}
+
 impl Moved {
     /// Each production of the program has its old number.
     pub fn nothing(alloc: Global, program: &Program) -> Result<Moved, OutOfMemory>
@@ -75,6 +96,18 @@ impl Moved {
         ensures { result ≡ place_of self.now number }
     {
         self.places.get(number).copied().flatten()
+    }
+
+    /// The number of productions that there were, if none of them was removed, so that each has its old number. Scans
+    /// them up to the first that has another one.
+    pub(crate) fn unmoved(&self) -> Option<usize>
+        ensures { MatchOption result (¬ (self.now ≡ unmoved (length self.now))) (λ n. self.now ≡ unmoved n) }
+    {
+        if are_unmoved(self.places.as_slice()) {
+            Some(self.places.len())
+        } else {
+            None
+        }
     }
 
     /// Records that the production that now has this number, if there is one, is removed. Scans all productions.

@@ -1,14 +1,15 @@
 //! Makes the state of the cycle follow the program in force.
-ghost use Rattle.std.specs.Prelude.{◌≡◌, IfOk};
+ghost use Rattle.std.specs.Prelude.{◌≡◌, IfOk, IfSome};
 ghost use Rattle.ops_base.specs.Feeding.{fed_again};
 ghost use Rattle.ops_base.specs.Names.{Spellings};
 ghost use Rattle.ops_io.specs.Coming.{Coming};
 ghost use Rattle.conflict_index.specs.Indexed.{KeepsSpecificities};
 ghost use Rattle.cycle.specs.Settles.{Settles};
 ghost use Rattle.cycle.specs.States.{state_course};
-ghost use Rattle.live_rules.specs.Moves.{inst_moved, insts_moved};
+ghost use Rattle.live_rules.specs.Moves.{inst_moved, insts_moved, unmoved};
 ghost use Rattle.live_rules.specs.Renewing.{IsFrom, moved_course};
 
+use crate::growing::grow_all;
 use crate::moved::Moved;
 use conflict_index::Index;
 use cycle::{Maker, State, made_over};
@@ -74,7 +75,7 @@ fn insts_moved(alloc: Global, insts: Vec<Inst>, moved: &Moved) -> Result<Vec<Ins
 /// instantiations of productions that stay keep their marks. Its cost is that of compiling the program and of one phase
 /// in which all elements are added, however many productions came and went. The old matcher is dropped before the new
 /// one is made. If memory runs out, the state is lost.
-pub fn renew<B: Maker, H: Fn(B::M, &[Change]) -> Result<Settled<B::M>, OutOfMemory>>(
+fn remake<B: Maker, H: Fn(B::M, &[Change]) -> Result<Settled<B::M>, OutOfMemory>>(
     alloc: Global,
     maker: &B,
     hand: &H,
@@ -104,4 +105,47 @@ pub fn renew<B: Maker, H: Fn(B::M, &[Change]) -> Result<Settled<B::M>, OutOfMemo
     let _store = matcher.store();
     let index = Index::with_marks(alloc, strategy, program, come.as_slice(), marks.as_slice())?;
     State::adopt(alloc, matcher, index, firings)
+}
+
+/// The number of productions that a state was made for, if it is to grow to the program in force: none of them was
+/// removed, and no more were added than there were. Where more were added, a new matcher is better: the network that is
+/// compiled for it shares what the conditions of several productions begin with, and a production that is added later
+/// shares nothing.
+fn grows_from(program: &Program, moved: &Moved) -> Option<usize>
+    ensures { IfSome result (λ n. moved.now ≡ unmoved n) }
+{
+    let before = moved.unmoved()?;
+    if program.rules.len().saturating_sub(before) > before {
+        return None;
+    }
+    Some(before)
+}
+
+/// A state for the program in force, made from a state for an older one. Instantiations of productions that stay keep
+/// their marks. If productions were only added, and not more than there were, the matcher grows by one after the other:
+/// this costs one scan of the numbers of the productions, and for each that was added what it matches, and one look at
+/// each element for each of its conditions. Otherwise there is a new matcher: this costs the compilation of the program
+/// and one phase in which all elements are added, however many productions came and went. If memory runs out, the state
+/// is lost.
+pub fn renew<B: Maker, H: Fn(B::M, &[Change]) -> Result<Settled<B::M>, OutOfMemory>>(
+    alloc: Global,
+    maker: &B,
+    hand: &H,
+    state: State<B::M>,
+    program: &Program,
+    moved: &Moved,
+) -> Result<State<B::M>, OutOfMemory>
+    requires settles { Settles B.M.stored B.M.found B.M.stands_for (λ m cs. H.pre hand.now m cs) (λ m cs r. H.post hand.now m cs r) }
+    requires from { IsFrom B.M.stands_for moved.now program.now.rules state }
+    ensures course { IfOk result (λ s. (names : Spellings) (coming : Coming) → state_course B.M.stored s names coming
+        ≡ moved_course moved.now (state_course B.M.stored state names coming)) }
+    ensures stands { IfOk result (λ s. B.M.stands_for s.matcher program.now.rules) }
+    ensures specificities { IfOk result (λ s. KeepsSpecificities program.now.rules s.index.members) }
+{
+    let Some(first) = grows_from(program, moved) else {
+        return remake(alloc, maker, hand, state, program, moved);
+    };
+    // reads the index: its members are the conflict set, so no mark is of a production that was added
+    let _index = state.index();
+    grow_all(alloc, maker, state, program, first)
 }

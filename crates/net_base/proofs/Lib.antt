@@ -16,3 +16,4 @@ pub mod ShapeOf
 pub mod KeyLemmas
 pub mod Apart
 pub mod FeedLemmas
+pub mod Extended

@@ -83,7 +83,13 @@ impl AlphaIndex {
         self.fields.add(alloc, class, field)
     }
 
-    fn add(&mut self, alloc: Global, number: usize, alpha: &Alpha) -> Result<(), OutOfMemory>
+    /// Adds the alpha with this number.
+    pub(crate) fn add(
+        &mut self,
+        alloc: Global,
+        number: usize,
+        alpha: &Alpha,
+    ) -> Result<(), OutOfMemory>
         ensures { OnOk result (AddsAlpha self.old self.new number alpha.now) }
     {
         let key = key_of(alpha);

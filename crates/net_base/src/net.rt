@@ -1,5 +1,5 @@
 //! Networks, which are sound by their type.
-ghost use Rattle.std.specs.Prelude.{◌≡◌, ◌≢◌, ℕ, [], All, AllPairs, Contains, IfOk, IsTrue, OnOk, Some, count_by, slice_get};
+ghost use Rattle.std.specs.Prelude.{◌≡◌, ◌≢◌, ◌∷◌, ◌++◌, ℕ, [], All, AllPairs, Contains, IfOk, IsTrue, OnOk, Some, count_by, slice_get};
 ghost use Rattle.net_base.specs.declared.nodes.Alpha.{Alpha};
 ghost use Rattle.net_base.specs.Sound.{IsSound, is_join, is_negated, is_terminal, takes_elements};
 ghost use Rattle.net_base.specs.Shape.{counts_of};
@@ -101,6 +101,80 @@ fn takers(alloc: Global, nodes: &[Node]) -> Result<Rows, OutOfMemory>
     Ok(takers)
 }
 
+/// Adds an alpha after all others to the alphas and to their index.
+fn add_alpha(
+    alloc: Global,
+    alphas: &mut Vec<Alpha>,
+    index: &mut AlphaIndex,
+    alpha: Alpha,
+) -> Result<(), OutOfMemory>
+    requires { IsIndex alphas.old.items index.old }
+    ensures alphas { OnOk result (alphas.new.items ≡ alphas.old.items ++ alpha ∷ []) }
+    ensures index { OnOk result (IsIndex alphas.new.items index.new) }
+{
+    let number = alphas.as_slice().len();
+    index.add(alloc, number, &alpha)?;
+    alphas.push(alpha)?;
+    Ok(())
+}
+
+/// Adds a node after all others to the nodes and to the takers of its alpha.
+fn add_node(
+    alloc: Global,
+    nodes: &mut Vec<Node>,
+    takers: &mut Rows,
+    node: Node,
+) -> Result<(), OutOfMemory>
+    requires { (alpha : ℕ) → row_at takers.old alpha ≡ takers_of nodes.old.items alpha }
+    ensures nodes { OnOk result (nodes.new.items ≡ nodes.old.items ++ node ∷ []) }
+    ensures takers { OnOk result ((alpha : ℕ) → row_at takers.new alpha ≡ takers_of nodes.new.items alpha) }
+{
+    if takes_elements(node.kind) {
+        let number = nodes.as_slice().len();
+        takers.add(alloc, node.alpha, number)?;
+    }
+    nodes.push(node)?;
+    Ok(())
+}
+
+/// The alphas and their index with these alphas after all others.
+fn with_alphas(
+    alloc: Global,
+    own: Listed<Alpha>,
+    index: AlphaIndex,
+    added: Vec<Alpha>,
+) -> Result<(Listed<Alpha>, AlphaIndex), OutOfMemory>
+    requires { IsIndex own index }
+    ensures alphas { IfOk result (λ r. r.0 ≡ own ++ added.items) }
+    ensures index { IfOk result (λ r. IsIndex r.0 r.1) }
+{
+    let mut all = own.into_vec();
+    let mut index = index;
+    for alpha in added {
+        add_alpha(alloc, &mut all, &mut index, alpha)?;
+    }
+    Ok((Listed::from_vec(all), index))
+}
+
+/// The nodes and the takers with these nodes after all others.
+fn with_nodes(
+    alloc: Global,
+    own: Listed<Node>,
+    takers: Rows,
+    added: Vec<Node>,
+) -> Result<(Listed<Node>, Rows), OutOfMemory>
+    requires { (alpha : ℕ) → row_at takers alpha ≡ takers_of own alpha }
+    ensures nodes { IfOk result (λ r. r.0 ≡ own ++ added.items) }
+    ensures takers { IfOk result (λ r. (alpha : ℕ) → row_at r.1 alpha ≡ takers_of r.0 alpha) }
+{
+    let mut all = own.into_vec();
+    let mut takers = takers;
+    for node in added {
+        add_node(alloc, &mut all, &mut takers, node)?;
+    }
+    Ok((Listed::from_vec(all), takers))
+}
+
 impl Net {
     /// Looks at the tests of each alpha up to its first constant, and at each node once. Takes memory for each alpha
     /// and each node.
@@ -115,6 +189,28 @@ impl Net {
     {
         let index = AlphaIndex::of(alloc, alphas.as_slice())?;
         let takers = takers(alloc, nodes.as_slice())?;
+        Ok(Net {
+            alphas,
+            nodes,
+            index,
+            takers,
+        })
+    }
+
+    /// The network with these alphas and nodes after its own. It costs what is added, not what was there. If memory runs
+    /// out, the network is lost.
+    pub fn extended(
+        self,
+        alloc: Global,
+        alphas: Vec<Alpha>,
+        nodes: Vec<Node>,
+    ) -> Result<Net, OutOfMemory>
+        requires { IsSound (self.alphas ++ alphas.items) (self.nodes ++ nodes.items) }
+        ensures alphas { IfOk result (λ net. net.alphas ≡ self.alphas ++ alphas.items) }
+        ensures nodes { IfOk result (λ net. net.nodes ≡ self.nodes ++ nodes.items) }
+    {
+        let (alphas, index) = with_alphas(alloc, self.alphas, self.index, alphas)?;
+        let (nodes, takers) = with_nodes(alloc, self.nodes, self.takers, nodes)?;
         Ok(Net {
             alphas,
             nodes,

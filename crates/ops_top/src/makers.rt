@@ -1,10 +1,12 @@
-//! What makes the matchers of each engine. The network of a program is compiled where an engine needs one.
+//! What makes the matchers of each engine, and lets them grow. The network of a program, or what it lacks for a
+//! production, is compiled where an engine needs one.
 ghost use Rattle.std.specs.Prelude.{◌≤◌, ◌^◌};
 
 use beta_net::compile;
 use cycle::Maker;
 use direct_engine::DirectEngine;
 use free_engine::FreeEngine;
+use grow_net::growth_for;
 use ops_base::memory::OutOfMemory;
 use ops_base::programs::Program;
 use ops_io::Gate;
@@ -12,6 +14,7 @@ use rounds_engine::RoundsEngine;
 use serial_engine::SerialEngine;
 use std::alloc::Global;
 use steal_engine::StealEngine;
+use work_store::Settled;
 
 /// Makes engines that match each production directly.
 #[derive(Clone, Copy)]
@@ -22,6 +25,16 @@ impl Maker for DirectMaker {
 
     fn make(&self, alloc: Global, program: &Program) -> Result<DirectEngine, OutOfMemory> {
         DirectEngine::new(alloc, program)
+    }
+
+    fn grow(
+        &self,
+        alloc: Global,
+        matcher: DirectEngine,
+        program: &Program,
+        number: usize,
+    ) -> Result<Settled<DirectEngine>, OutOfMemory> {
+        matcher.grow(alloc, program, number)
     }
 }
 
@@ -39,6 +52,18 @@ impl<G: Gate + Copy> Maker for SerialMaker<G> {
     fn make(&self, alloc: Global, program: &Program) -> Result<SerialEngine<G>, OutOfMemory> {
         let net = compile(alloc, program)?;
         SerialEngine::new(alloc, net, self.lines, self.gate)
+    }
+
+    fn grow(
+        &self,
+        alloc: Global,
+        matcher: SerialEngine<G>,
+        program: &Program,
+        number: usize,
+    ) -> Result<Settled<SerialEngine<G>>, OutOfMemory> {
+        let growth = growth_for(alloc, matcher.net(), program, number)?;
+        let enter = |line: usize| self.gate.enter(0, line);
+        matcher.grow(alloc, growth, &enter)
     }
 }
 
@@ -60,6 +85,18 @@ impl<G: Gate + Copy> Maker for RoundsMaker<G> {
         let net = compile(alloc, program)?;
         RoundsEngine::new(alloc, net, self.lines, self.workers, self.gate)
     }
+
+    fn grow(
+        &self,
+        alloc: Global,
+        matcher: RoundsEngine<G>,
+        program: &Program,
+        number: usize,
+    ) -> Result<Settled<RoundsEngine<G>>, OutOfMemory> {
+        let growth = growth_for(alloc, matcher.net(), program, number)?;
+        let enter = |line: usize| self.gate.enter(0, line);
+        matcher.grow(alloc, growth, &enter)
+    }
 }
 
 /// Makes engines of free workers. They start no thread before they settle.
@@ -80,6 +117,18 @@ impl<G: Gate + Copy> Maker for FreeMaker<G> {
         let net = compile(alloc, program)?;
         FreeEngine::new(alloc, net, self.lines, self.workers, self.gate)
     }
+
+    fn grow(
+        &self,
+        alloc: Global,
+        matcher: FreeEngine<G>,
+        program: &Program,
+        number: usize,
+    ) -> Result<Settled<FreeEngine<G>>, OutOfMemory> {
+        let growth = growth_for(alloc, matcher.net(), program, number)?;
+        let enter = |line: usize| self.gate.enter(0, line);
+        matcher.grow(alloc, growth, &enter)
+    }
 }
 
 /// Makes stealing engines. They start no thread before they settle.
@@ -99,5 +148,17 @@ impl<G: Gate + Copy> Maker for StealMaker<G> {
     fn make(&self, alloc: Global, program: &Program) -> Result<StealEngine<G>, OutOfMemory> {
         let net = compile(alloc, program)?;
         StealEngine::new(alloc, net, self.lines, self.workers, self.gate)
+    }
+
+    fn grow(
+        &self,
+        alloc: Global,
+        matcher: StealEngine<G>,
+        program: &Program,
+        number: usize,
+    ) -> Result<Settled<StealEngine<G>>, OutOfMemory> {
+        let growth = growth_for(alloc, matcher.net(), program, number)?;
+        let enter = |line: usize| self.gate.enter(0, line);
+        matcher.grow(alloc, growth, &enter)
     }
 }

@@ -1,5 +1,5 @@
 -- What carries a phase on from one world to another, and what feeds it.
-use Rattle.std.specs.Prelude.{◌≡◌, ◌++◌, List, length, map}
+use Rattle.std.specs.Prelude.{◌++◌, List, length, map}
 use Rattle.ops_base.specs.declared.elements.Element.{Element}
 use Rattle.ops_base.specs.declared.elements.Change.{Change}
 use Rattle.work_store.specs.Stored.{Stored, held_of}
@@ -7,7 +7,6 @@ use Rattle.net_base.specs.declared.nodes.Node.{Node}
 use Rattle.net_base.specs.declared.nodes.Alpha.{Alpha}
 use Rattle.net_base.specs.declared.tasks.Task.{Task}
 use Rattle.token_line.specs.declared.line.Line.{Line}
-use Rattle.step_core.specs.declared.world.World.{World}
 use Rattle.step_core.specs.Rounds.{IsUnderWay}
 use Rattle.step_core.specs.Worlds.{placed, seen}
 

@@ -72,8 +72,8 @@ fn add_all<M: Matcher>(
     Ok((undoable, place))
 }
 
-/// After the phase of a firing that built productions: adds them, and makes the state follow them. Its cost is that of one
-/// new matcher, however many were built.
+/// After the phase of a firing that built productions: adds them, and makes the state follow them. If none of them took
+/// the place of another, the matcher grows by them. Otherwise its cost is that of one new matcher, however many were built.
 pub(crate) fn follow_built<
     B: Maker,
     H: Fn(B::M, &[Change]) -> Result<Settled<B::M>, OutOfMemory>,

@@ -1,26 +1,24 @@
-use Rattle.std.proofs.Common.{length}
-use Rattle.beta_net.proofs.WholeLemmas.{all_valid, compiled_sound, compiled_net, compiled_shape, same_compiled}
+use Rattle.std.proofs.Common.{List, length, slice_range, subst, ap, ◌∙◌}
+use Rattle.std.specs.Prelude.{IfOk}
+use Rattle.ops_base.specs.declared.rules.Rule.{Rule}
+use Rattle.net_base.specs.declared.net.Net.{Net}
+use Rattle.net_base.specs.Network.{NetOf}
+use Rattle.net_base.specs.Shape.{IsShape, counts_of}
+use Rattle.beta_net.specs.Built.{IsCompiled}
+use Rattle.beta_net.proofs.WholeLemmas.{whole_range}
 use Rattle.beta_net.proofs.compile.Goals as goal
-
-pub new-requires : goal.new-requires
-new-requires c =
-    let rules = c.args.program.now.rules in
-    let valid = all_valid c.args.program.now.classes rules c.args.program.now.templates c.args.program.now.commands (length c.args.program.now.text) c.args.program.now.valid in
-    let made = c.in_ok-draft.ensures in
-    compiled_sound rules c.from_vec-alphas.result c.from_vec-nodes.result valid (same_compiled rules c.in_ok-draft.draft.alphas.items c.from_vec-alphas.result c.in_ok-draft.draft.nodes.items c.from_vec-nodes.result c.from_vec-alphas.ensures c.from_vec-nodes.ensures made)
 
 pub returns-clause-network : goal.returns-clause-network
 returns-clause-network c =
     let rules = c.args.program.now.rules in
-    let valid = all_valid c.args.program.now.classes rules c.args.program.now.templates c.args.program.now.commands (length c.args.program.now.text) c.args.program.now.valid in
-    let made = c.in_ok-draft.ensures in
-    let own = same_compiled rules c.in_ok-draft.draft.alphas.items c.from_vec-alphas.result c.in_ok-draft.draft.nodes.items c.from_vec-nodes.result c.from_vec-alphas.ensures c.from_vec-nodes.ensures made in
-    compiled_net rules c.in_ok-net.net valid (same_compiled rules c.from_vec-alphas.result c.in_ok-net.net.alphas c.from_vec-nodes.result c.in_ok-net.net.nodes c.in_ok-net.ensures.alphas c.in_ok-net.ensures.nodes own)
+    subst (λ (z : List Rule). IfOk c.net_of.result (λ (net : Net). NetOf net z)) (ap (λ n. slice_range rules 0 n) c.len.ensures ∙ whole_range rules) c.net_of.ensures.network
 
 pub returns-clause-shape : goal.returns-clause-shape
 returns-clause-shape c =
     let rules = c.args.program.now.rules in
-    let valid = all_valid c.args.program.now.classes rules c.args.program.now.templates c.args.program.now.commands (length c.args.program.now.text) c.args.program.now.valid in
-    let made = c.in_ok-draft.ensures in
-    let own = same_compiled rules c.in_ok-draft.draft.alphas.items c.from_vec-alphas.result c.in_ok-draft.draft.nodes.items c.from_vec-nodes.result c.from_vec-alphas.ensures c.from_vec-nodes.ensures made in
-    compiled_shape rules c.in_ok-net.net.alphas c.in_ok-net.net.nodes valid (same_compiled rules c.from_vec-alphas.result c.in_ok-net.net.alphas c.from_vec-nodes.result c.in_ok-net.net.nodes c.in_ok-net.ensures.alphas c.in_ok-net.ensures.nodes own)
+    subst (λ (z : List Rule). IfOk c.net_of.result (λ (net : Net). IsShape z (counts_of net.alphas net.nodes))) (ap (λ n. slice_range rules 0 n) c.len.ensures ∙ whole_range rules) c.net_of.ensures.shape
+
+pub returns-clause-built : goal.returns-clause-built
+returns-clause-built c =
+    let rules = c.args.program.now.rules in
+    subst (λ (z : List Rule). IfOk c.net_of.result (λ (net : Net). IsCompiled z net.alphas net.nodes)) (ap (λ n. slice_range rules 0 n) c.len.ensures ∙ whole_range rules) c.net_of.ensures.built

@@ -1,5 +1,5 @@
 -- The changes are fed, and some tasks are picked.
-use Rattle.std.proofs.Common.{[], ◌++◌, length, subst, append-nil}
+use Rattle.std.proofs.Common.{[], length, subst, append-nil}
 use Rattle.serial_engine.specs.Running.{Went}
 use Rattle.serial_engine.proofs.StepLemmas.{went_on}
 use Rattle.serial_engine.proofs.phases.feed_changes.Goals as goal
