@@ -1,10 +1,5 @@
 //! Programs that undo firings, over each engine.
 
-use crate::runs::{RUNS, answer};
-use ops_io::MemSink;
-use ops_meaning::Status;
-use std::test::Fail;
-
 // The tags that were given are given again.
 const COUNTED: &[u8] = b"(literalize a n)
 (p up { <w> (a ^n { <x> < 3 }) } --> (modify <w> ^n (compute <x> + 1)))
@@ -71,7 +66,7 @@ const MANY: &[u8] = b"(literalize a n)
 ";
 
 /// Texts, each with what is written.
-const TEXTS: [(&[u8], &[u8]); 5] = [
+pub(super) const TEXTS: [(&[u8], &[u8]); 5] = [
     (
         COUNTED,
         b"end -- no production true
@@ -118,17 +113,3 @@ back -- 0 firings kept
 ",
     ),
 ];
-
-#[test]
-fn firings_are_undone(rt: HostRuntime) -> Result<(), Fail> {
-    let alloc = rt.alloc();
-    for (text, written) in TEXTS {
-        for words in RUNS {
-            let mut sink = MemSink::new(alloc, 1_000, 1_000, Vec::new(alloc))?;
-            let status = answer(&rt, alloc, words, &[("a", text)], &mut sink)?;
-            assert_eq!(rt; status, Status::Done);
-            assert_eq!(rt; sink.written(), written);
-        }
-    }
-    Ok(())
-}

@@ -1,10 +1,5 @@
 //! Programs whose right sides build productions, over each engine.
 
-use crate::runs::{NAMED_ANN, RUNS, answer, answer_over};
-use ops_io::{MemSink, MemSource};
-use ops_meaning::Status;
-use std::test::Fail;
-
 // A production that is built is printed as its action, and taken out like any other.
 const GROWN: &[u8] = b"(literalize a n)
 (p grow (a ^n <x>) --> (build made (a ^n \\\\ <x>) --> (write made \\\\ <x> (crlf))))
@@ -59,7 +54,7 @@ const BOUND: &[u8] = b"(literalize a n)
 ";
 
 /// Texts, each with what is written.
-const TEXTS: [(&[u8], &[u8]); 4] = [
+pub(super) const TEXTS: [(&[u8], &[u8]); 4] = [
     (
         GROWN,
         b"made 5
@@ -99,40 +94,11 @@ back -- 1 firings kept
     ),
 ];
 
-#[test]
-fn productions_are_built(rt: HostRuntime) -> Result<(), Fail> {
-    let alloc = rt.alloc();
-    for (text, written) in TEXTS {
-        for words in RUNS {
-            let mut sink = MemSink::new(alloc, 1_000, 1_000, Vec::new(alloc))?;
-            let status = answer(&rt, alloc, words, &[("a", text)], &mut sink)?;
-            assert_eq!(rt; status, Status::Done);
-            assert_eq!(rt; sink.written(), written);
-        }
-    }
-    Ok(())
-}
-
-const ASK_BUILT: &[u8] = b"(literalize s)
+/// A production that is built asks for a name and tells it.
+pub(super) const ASK_BUILT: &[u8] = b"(literalize s)
 (p learn (s)
   -->
     (build ask (s) --> (write |name?|) (bind <n> (accept)) (write <n> (crlf)) (remove 1)))
 (make s)
 (run)
 ";
-
-/// A production that is built reads the input.
-#[test]
-fn built_production_asks(rt: HostRuntime) -> Result<(), Fail> {
-    let alloc = rt.alloc();
-    for words in RUNS {
-        let bytes = Vec::from_slice(alloc, b"Ann Bob")?;
-        let mut input = MemSource::new(bytes, 1, Vec::new(alloc));
-        let mut sink = MemSink::new(alloc, 1_000, 1_000, Vec::new(alloc))?;
-        let files: [(&str, &[u8]); 1] = [("a", ASK_BUILT)];
-        let status = answer_over(&rt, alloc, words, &files, &mut input, &mut sink)?;
-        assert_eq!(rt; status, Status::Done);
-        assert_eq!(rt; sink.written(), NAMED_ANN);
-    }
-    Ok(())
-}

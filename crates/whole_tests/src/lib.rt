@@ -31,3 +31,5 @@ mod texts;
 mod why_rows;
 #[cfg(test)]
 mod words;
+#[cfg(test)]
+mod written;

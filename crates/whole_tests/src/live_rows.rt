@@ -1,7 +1,7 @@
 //! Programs whose productions come and go while they run, over each engine.
 
-use crate::runs::{NAMED_ANN, RUNS, answer, answer_over};
-use ops_io::{MemSink, MemSource};
+use crate::runs::answer;
+use ops_io::MemSink;
 use ops_meaning::Status;
 use std::test::Fail;
 
@@ -64,8 +64,26 @@ const REMOVED: &[u8] = b"(literalize a n)
 (wm)
 ";
 
+// Two productions are added to a network that stands over elements: one with a group, one with a negated condition. Later
+// changes meet both.
+const GROWING: &[u8] = b"(literalize a n)
+(literalize b n)
+(p one (a ^n <x>) --> (write one <x> (crlf)))
+(p none (b ^n 9) --> )
+(make a ^n 1)
+(make b ^n 1)
+(make a ^n 2)
+(run)
+(p two (a ^n <x>) - { (b ^n <x>) (a ^n > <x>) } --> (write two <x> (crlf)))
+(p three (a ^n <x>) (b ^n <x>) - (a ^n > 2) --> (write three <x> (crlf)))
+(run)
+(make a ^n 3)
+(remove 2)
+(run)
+";
+
 /// Texts, each with what is written.
-const TEXTS: [(&[u8], &[u8]); 5] = [
+pub(super) const TEXTS: [(&[u8], &[u8]); 6] = [
     (
         EXCHANGED,
         b"one\nend -- no production true\ntwo 2\ntwo 1\nend -- no production true\n",
@@ -101,43 +119,28 @@ end -- no production true
         REMOVED,
         b"one 1\nend -- no production true\none 3\n1: (a ^n 1)\n3: (a ^n 3)\n",
     ),
+    (
+        GROWING,
+        b"one 2
+one 1
+end -- no production true
+two 2
+three 1
+end -- no production true
+two 3
+one 3
+two 1
+end -- no production true
+",
+    ),
 ];
 
-#[test]
-fn productions_come_and_go(rt: HostRuntime) -> Result<(), Fail> {
-    let alloc = rt.alloc();
-    for (text, written) in TEXTS {
-        for words in RUNS {
-            let mut sink = MemSink::new(alloc, 1_000, 1_000, Vec::new(alloc))?;
-            let status = answer(&rt, alloc, words, &[("a", text)], &mut sink)?;
-            assert_eq!(rt; status, Status::Done);
-            assert_eq!(rt; sink.written(), written);
-        }
-    }
-    Ok(())
-}
-
-const ASK_LATE: &[u8] = b"(literalize s)
+/// A production that is added asks for a name and tells it.
+pub(super) const ASK_LATE: &[u8] = b"(literalize s)
 (make s)
 (p ask (s) --> (write |name?|) (bind <n> (accept)) (write <n> (crlf)) (remove 1))
 (run)
 ";
-
-/// A production that is added reads the input.
-#[test]
-fn added_production_asks(rt: HostRuntime) -> Result<(), Fail> {
-    let alloc = rt.alloc();
-    for words in RUNS {
-        let bytes = Vec::from_slice(alloc, b"Ann Bob")?;
-        let mut input = MemSource::new(bytes, 1, Vec::new(alloc));
-        let mut sink = MemSink::new(alloc, 1_000, 1_000, Vec::new(alloc))?;
-        let files: [(&str, &[u8]); 1] = [("a", ASK_LATE)];
-        let status = answer_over(&rt, alloc, words, &files, &mut input, &mut sink)?;
-        assert_eq!(rt; status, Status::Done);
-        assert_eq!(rt; sink.written(), NAMED_ANN);
-    }
-    Ok(())
-}
 
 // The second one is added by a command.
 const COUNTED: &[u8] =

@@ -1,10 +1,5 @@
 //! Programs that list partial matches, over each engine.
 
-use crate::runs::{RUNS, answer};
-use ops_io::MemSink;
-use ops_meaning::Status;
-use std::test::Fail;
-
 // An element stands in the way of the second part of `calm`. The makes wait when they are looked at.
 const PAIRS: &[u8] = b"(literalize a n) (literalize stop)
 (p pair (a ^n <x>) (a ^n > <x>) --> )
@@ -45,7 +40,7 @@ const RUN: &[u8] = b"(literalize a n)
 ";
 
 /// Texts, each with what is written.
-const TEXTS: [(&[u8], &[u8]); 4] = [
+pub(super) const TEXTS: [(&[u8], &[u8]); 4] = [
     (
         PAIRS,
         b"pair 1: 1\npair 1: 2\npair 2: 1 2\ncalm 1: 1\ncalm 1: 2\n",
@@ -76,17 +71,3 @@ both 2: 3 4
 ",
     ),
 ];
-
-#[test]
-fn partial_matches_are_listed(rt: HostRuntime) -> Result<(), Fail> {
-    let alloc = rt.alloc();
-    for (text, written) in TEXTS {
-        for words in RUNS {
-            let mut sink = MemSink::new(alloc, 1_000, 1_000, Vec::new(alloc))?;
-            let status = answer(&rt, alloc, words, &[("a", text)], &mut sink)?;
-            assert_eq!(rt; status, Status::Done);
-            assert_eq!(rt; sink.written(), written);
-        }
-    }
-    Ok(())
-}
